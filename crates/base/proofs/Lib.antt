@@ -1,0 +1,3 @@
+pub mod AdlerSteps
+pub mod Areas
+pub mod Fields

@@ -1,0 +1,4 @@
+pub mod Nexts
+pub mod Rooms
+pub mod Turns
+pub mod Written

@@ -1,0 +1,2 @@
+pub mod Inspecting
+pub mod Records
