@@ -1,3 +1,4 @@
+pub mod Framed
 pub mod Nexts
 pub mod Rooms
 pub mod Turns

@@ -12,16 +12,16 @@ use Rattle.base.specs.Fields.{be}
 use Rattle.capture.specs.Records.{Found, nothing, last, one, datagram, judge, malformed, datagramIn, judgeIn, nextIn}
 
 -- the tests of `nextIn`, at numbers
-first-test : (l a : ℕ) (f g h : Found) → 0 < l → a ≡ 1 → cond (eqb l 0) f (cond (eqb a 1) g h) ≡ g
+pub first-test : (l a : ℕ) (f g h : Found) → 0 < l → a ≡ 1 → cond (eqb l 0) f (cond (eqb a 1) g h) ≡ g
 first-test l a f g h p q = grind (arith, tells)
 
-second-test : (l a : ℕ) (f g h k : Found) → 0 < l → a ≡ 2 → cond (eqb l 0) f (cond (eqb a 1) g (cond (eqb a 2) h k)) ≡ h
+pub second-test : (l a : ℕ) (f g h k : Found) → 0 < l → a ≡ 2 → cond (eqb l 0) f (cond (eqb a 1) g (cond (eqb a 2) h k)) ≡ h
 second-test l a f g h k p q = grind (arith, tells)
 
-fits-test : (m l : ℕ) (f g : Found) → m ≤ l → cond (leb m l) f g ≡ f
+pub fits-test : (m l : ℕ) (f g : Found) → m ≤ l → cond (leb m l) f g ≡ f
 fits-test m l f g h = grind (arith, tells)
 
-both-test : (m n l : ℕ) (f g : Found) → m ≤ l → n ≤ l → cond (leb m l && leb n l) f g ≡ f
+pub both-test : (m n l : ℕ) (f g : Found) → m ≤ l → n ≤ l → cond (leb m l && leb n l) f g ≡ f
 both-test m n l f g h k = grind (arith, tells)
 
 pub judge-cut : (xs : List ℕ) (k : ℕ) → 9 ≤ length xs → getD xs 0 0 ≡ 2 → k ≡ be 8 xs 1 → one (judge k) (take (length xs - 9) (drop 9 xs)) ≡ nextIn xs

@@ -3,6 +3,7 @@ ghost use mathlib.Core.Path.{_≡_};
 ghost use Prim.Native.Nat.{_≤_};
 ghost use lib.ListN.{length};
 ghost use Rattle.base.specs.Fields.{be};
+ghost use Rattle.capture.specs.Framing.{Reads-back};
 ghost use Rattle.capture.specs.Records.{isMarked, contentsOf, contentsIn, nextIn, foundIn, Takes};
 use crate::record::Capture;
 use crate::record::Next;
@@ -75,4 +76,11 @@ pub fn next_record(records: &[u8]) -> Next<'_>
         },
         _ => Next::Malformed,
     }
+}
+
+/// What is written as a capture reads back: channel, start and every record.
+pub fn captures_read_back() -> u8
+    ensures { λ _. ⌜ Reads-back ⌝ }
+{
+    0
 }

@@ -18,8 +18,18 @@ use Rattle.base.specs.Fields.{be, beBytes}
 use Rattle.base.proofs.Fields.{be-beBytes, beBytes-be, length-beBytes}
 use Rattle.wire.specs.Splitting.{lengthsOf, cut, misfit, cutUnless, splitOf, table, joined, Tells, Exact}
 
+-- messages, and lengths, that a body can have
+abbrev Lengths : List ℕ → Type 0
+Lengths ns = (k : ℕ) → k < length ns → (1 ≤ getD ns k 0) × (getD ns k 0 ≤ 4092)
+
+abbrev Sizes : List (List ℕ) → Type 0
+Sizes ms = (k : ℕ) → k < length ms → (1 ≤ length (getD ms k [])) × (length (getD ms k []) ≤ 4092)
+
+sizes-of : (count : ℕ) (body : List ℕ) (ms : List (List ℕ)) → Tells count body ms → Sizes ms
+sizes-of count body ms t k h = t .sizes k (omega (arith, t .number))
+
 -- the lengths of messages, from their table
-lengths-of : (ms : List (List ℕ)) (rest : List ℕ) → ((k : ℕ) → k < length ms → (1 ≤ length (getD ms k [])) × (length (getD ms k []) ≤ 4092))
+lengths-of : (ms : List (List ℕ)) (rest : List ℕ) → Sizes ms
     → lengthsOf (length ms) (table ms ++ rest) ≡ map length ms
 lengths-of [] rest h = refl
 lengths-of (m ∷ ms) rest h =
@@ -43,7 +53,7 @@ fit-test : (n at size : ℕ) (x y : Option ℕ) → 1 ≤ n → n ≤ 4092 → a
 fit-test n at size x y h k l = grind (arith, tells)
 
 -- messages that fill their place
-fitting : (ms : List (List ℕ)) (size i at : ℕ) → ((k : ℕ) → k < length ms → (1 ≤ length (getD ms k [])) × (length (getD ms k []) ≤ 4092))
+fitting : (ms : List (List ℕ)) (size i at : ℕ) → Sizes ms
     → at + length (joined ms) ≡ size → misfit size i at (map length ms) ≡ None
 fitting [] size i at h e = end-test at size i (omega arith)
 fitting (m ∷ ms) size i at h e =
@@ -62,7 +72,7 @@ cut-joined (m ∷ ms) =
 long-test : (l n : ℕ) (x y : Option ℕ) → n ≤ l → cond (ltb l n) x y ≡ y
 long-test l n x y h = grind (arith, tells)
 
-splits : (ms : List (List ℕ)) → ((k : ℕ) → k < length ms → (1 ≤ length (getD ms k [])) × (length (getD ms k []) ≤ 4092))
+splits : (ms : List (List ℕ)) → Sizes ms
     → splitOf (length ms) (table ms ++ joined ms) ≡ Ok ms
 unfolding splitOf
 splits ms h =
@@ -80,8 +90,7 @@ splits ms h =
 
 pub every : (count : ℕ) (body : List ℕ) (ms : List (List ℕ)) → Tells count body ms → splitOf count body ≡ Ok ms
 every count body ms t =
-    let sizes : (k : ℕ) → k < length ms → (1 ≤ length (getD ms k [])) × (length (getD ms k []) ≤ 4092) = λ k h. t .sizes k (omega (arith, t .number)) in
-    ap (λ n. splitOf n body) (sym (t .number)) ∙ ap (splitOf (length ms)) (sym (t .whole)) ∙ splits ms sizes
+    ap (λ n. splitOf n body) (sym (t .number)) ∙ ap (splitOf (length ms)) (sym (t .whole)) ∙ splits ms (sizes-of count body ms t)
 
 abbrev total : List ℕ → ℕ
 total [] = 0
@@ -105,21 +114,18 @@ long-enough l n e = grind (arith, tells)
 in-place : (n at size : ℕ) → (eqb n 0 || (ltb 4092 n || ltb size (at + n))) ≡ false → (1 ≤ n) × (n ≤ 4092)
 in-place n at size e = (grind (arith, tells), grind (arith, tells))
 
-sized-at : (n : ℕ) (ns : List ℕ) → (1 ≤ n) × (n ≤ 4092) → ((k : ℕ) → k < length ns → (1 ≤ getD ns k 0) × (getD ns k 0 ≤ 4092))
-    → (k : ℕ) → k < suc (length ns) → (1 ≤ getD (n ∷ ns) k 0) × (getD (n ∷ ns) k 0 ≤ 4092)
+sized-at : (n : ℕ) (ns : List ℕ) → (1 ≤ n) × (n ≤ 4092) → Lengths ns → Lengths (n ∷ ns)
 sized-at n ns first more zero h = first
 sized-at n ns first more (suc k) h = more k (omega arith)
 
 -- lengths that fill their place
 filling : (ns : List ℕ) (size i at : ℕ) → misfit size i at ns ≡ None
-    → (at + total ns ≡ size) × ((k : ℕ) → k < length ns → (1 ≤ getD ns k 0) × (getD ns k 0 ≤ 4092))
+    → (at + total ns ≡ size) × Lengths ns
 filling [] size i at e = (omega (arith, at-end at size i e), λ k h. absurd (omega arith))
 filling (n ∷ ns) size i at e =
     let p = passed (eqb n 0 || (ltb 4092 n || ltb size (at + n))) (i + 1) (misfit size (i + 1) (at + n) ns) e in
     let rest = filling ns size (i + 1) (at + n) (p .1) in
-    let sizes : (k : ℕ) → k < suc (length ns) → (1 ≤ getD (n ∷ ns) k 0) × (getD (n ∷ ns) k 0 ≤ 4092) =
-    λ k h. sized-at n ns (in-place n at size (p .0)) (rest .1) k h in
-    (omega (arith, rest .0), sizes)
+    (omega (arith, rest .0), sized-at n ns (in-place n at size (p .0)) (rest .1))
 
 length-lengths : (n : ℕ) (bytes : List ℕ) → length (lengthsOf n bytes) ≡ n
 length-lengths zero bytes = refl
@@ -140,7 +146,7 @@ joined-cut [] (b ∷ bs) e = absurd (omega arith)
 joined-cut (n ∷ ns) bytes e =
     ap (λ l. take n bytes ++ l) (joined-cut ns (drop n bytes) (omega (arith, length-drop n bytes))) ∙ take-append-drop n bytes
 
-bytes-drop : (n : ℕ) (bytes : List ℕ) → Bytes bytes → Bytes (drop n bytes)
+pub bytes-drop : (n : ℕ) (bytes : List ℕ) → Bytes bytes → Bytes (drop n bytes)
 bytes-drop n bytes b =
     record { below = λ k h. let l : n + k < length bytes = omega (arith, length-drop n bytes) in rw getD-drop (b .below (n + k) l) }
 
@@ -184,8 +190,7 @@ only count body ms b e =
 -- the lengths that a body begins with are those of its messages
 pub lengths-told : (count : ℕ) (body : List ℕ) (ms : List (List ℕ)) → Tells count body ms → lengthsOf count body ≡ map length ms
 lengths-told count body ms t =
-    let sizes : (k : ℕ) → k < length ms → (1 ≤ length (getD ms k [])) × (length (getD ms k []) ≤ 4092) = λ k h. t .sizes k (omega (arith, t .number)) in
-    ap (λ n. lengthsOf n body) (sym (t .number)) ∙ ap (lengthsOf (length ms)) (sym (t .whole)) ∙ lengths-of ms (joined ms) sizes
+    ap (λ n. lengthsOf n body) (sym (t .number)) ∙ ap (lengthsOf (length ms)) (sym (t .whole)) ∙ lengths-of ms (joined ms) (sizes-of count body ms t)
 
 -- a body has room for its lengths
 pub table-fits : (count : ℕ) (body : List ℕ) (ms : List (List ℕ)) → Tells count body ms → 4 * length ms ≤ length body

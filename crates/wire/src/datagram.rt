@@ -1,6 +1,13 @@
 // What a datagram is read as.
 use crate::flag::Flag;
 
+/// The protocol's first byte, its version and its market, the same in every datagram.
+pub const PROTOCOL: u8 = 0xFF;
+
+pub const VERSION: u8 = 1;
+
+pub const MARKET: u16 = 1;
+
 /// The number of a fragment and the fragments of its packet.
 #[derive(Clone, Copy)]
 pub struct Fragment {

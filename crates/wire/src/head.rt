@@ -3,7 +3,7 @@ use crate::flag::Flag;
 
 // The header of a datagram behind Protocol and Version, without what its flag adds.
 #[derive(Clone, Copy)]
-pub(crate) struct Head {
+pub struct Head {
     pub header_size: u8,
     pub sender: u8,
     pub market: u16,

@@ -19,8 +19,11 @@ ghost use Rattle.wire.specs.Flags.{isFragmented, hasChecksum};
 ghost use Rattle.wire.specs.Bounds.{Bounds, FragmentBounds};
 ghost use Rattle.wire.specs.Reading.{frameRows, frameOf, headRows, soundHead, wordsFor, numbered, controlRows, controlKind, dataRows, firstInRange, fragmentRows, fragmentNumbers, controlOf, firstNumberOf, fragmentOf, checksumOf, layersOf, readingOf};
 use crate::datagram::Fragment;
+use crate::datagram::MARKET;
+use crate::datagram::PROTOCOL;
 use crate::datagram::Packet;
 use crate::datagram::Reading;
+use crate::datagram::VERSION;
 use crate::fields::i64_at;
 use crate::fields::u16_at;
 use crate::fields::u32_at;
@@ -35,12 +38,6 @@ use base::limits::MAX_MESSAGES;
 use base::limits::MAX_NUMBER;
 use base::limits::MIN_DATAGRAM;
 use base::limits::TRAILER;
-
-const PROTOCOL: u8 = 0xFF;
-
-const VERSION: u8 = 1;
-
-const MARKET: u16 = 1;
 
 const STREAM_END: u16 = 0xFFFF;
 

@@ -1,0 +1,15 @@
+pub mod Cutting
+pub mod Flagged
+pub mod Fragments
+pub mod JoiningBack
+pub mod Layers
+pub mod PackedBack
+pub mod Pieces
+pub mod ReadData
+pub mod ReadingBack
+pub mod Repacked
+pub mod Rewritten
+pub mod Rows
+pub mod Sound
+pub mod Tested
+pub mod Written

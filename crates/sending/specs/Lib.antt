@@ -1,0 +1,4 @@
+pub mod Joining
+pub mod Packing
+pub mod Repacking
+pub mod Round
