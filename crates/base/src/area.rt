@@ -1,9 +1,10 @@
 // Writes into areas of bytes.
 ghost use mathlib.Core.Path.{_≡_};
 ghost use mathlib.Core.Bool.{cond};
-ghost use Prim.Native.Nat.{_+_};
+ghost use Prim.Native.Nat.{_+_, _-_};
 ghost use lib.Dec.{leb};
-ghost use lib.ListN.{length, replicate};
+ghost use lib.ListN.{length, replicate, take};
+ghost use mathlib.Core.List.{_++_};
 ghost use Rattle.base.specs.Areas.{writtenAt};
 ghost use Rattle.std.specs.declared.option.Option.the-variants.{Some, None};
 
@@ -25,4 +26,13 @@ pub fn zero(area: &mut [u8])
     ensures { λ _. ⌜ now (area .exit) ≡ replicate (length (now (area .entry))) 0 ⌝ }
 {
     area.fill(0);
+}
+
+/// Sets every byte of an area from a place on to 0.
+pub fn zero_from(area: &mut [u8], at: usize)
+    ensures { λ _. ⌜ now (area .exit) ≡ take at (now (area .entry)) ++ replicate (length (now (area .entry)) - at) 0 ⌝ }
+{
+    if at < area.len() {
+        zero(&mut area[at..]);
+    }
 }

@@ -7,6 +7,7 @@ pub mod refusal;
 pub use adler::adler32;
 pub use area::write_at;
 pub use area::zero;
+pub use area::zero_from;
 pub use refusal::Cause;
 pub use refusal::Layer;
 pub use refusal::Refusal;

@@ -10,7 +10,7 @@ use crate::piece::piece_of;
 use crate::piece::total_for;
 use base::adler32;
 use base::limits::BODY_ROOM;
-use base::zero;
+use base::zero_from;
 use parts::SealingCoder;
 use wire::datagram::MARKET;
 use wire::datagram::PROTOCOL;
@@ -25,14 +25,6 @@ fn append(buffer: &mut [u8], at: usize, part: &[u8]) -> usize
     let end = at + part.len();
     buffer[at..end].copy_from_slice(part);
     end
-}
-
-// Zeros behind the first `at` bytes.
-fn clear(buffer: &mut [u8], at: usize)
-    requires { ⌜ at ≤ length (now buffer) ⌝ }
-    ensures { λ _. ⌜ now (buffer .exit) ≡ take at (now (buffer .entry)) ++ replicate (length (now (buffer .entry)) - at) 0 ⌝ }
-{
-    zero(&mut buffer[at..]);
 }
 
 // The five words that every header has.
@@ -96,7 +88,7 @@ fn close(buffer: &mut [u8], at: usize) -> usize
 {
     let sum = adler32(&buffer[0..at]);
     let end = append(buffer, at, &sum.to_be_bytes());
-    clear(buffer, end);
+    zero_from(buffer, end);
     end
 }
 

@@ -1,0 +1,10 @@
+pub mod Areas
+pub mod Bytes
+pub mod Fronts
+pub mod Hexes
+pub mod Lists
+pub mod Loops
+pub mod Messages
+pub mod Packs
+pub mod Prepared
+pub mod WordLists

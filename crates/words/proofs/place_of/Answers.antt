@@ -1,0 +1,13 @@
+use borrow.Author.Needs.{needs}
+use native.Mathlib.Omega.{arith}
+use Rattle.words.proofs.Places.{before-met, before-more, before-all}
+use Rattle.words.proofs.place_of.Needs as need
+
+pub returns-then-b-stop : need.returns-then-b-stop
+returns-then-b-stop c = search (needs, before-met)
+
+pub loop-i-again : need.loop-i-again
+loop-i-again c = search (needs, before-more)
+
+pub returns : need.returns
+returns c = search (needs, before-all)
