@@ -1,0 +1,4 @@
+pub mod Shifts
+pub mod Orders
+pub mod Upto
+pub mod Mappings
