@@ -1,4 +1,6 @@
 // The account of a channel, and its calls.
+#![tactic(auto)]
+
 pub mod account;
 pub mod answer;
 mod buffers;

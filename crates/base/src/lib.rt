@@ -1,4 +1,6 @@
 // What every other crate of Soccerpine rests on: refusals, limits, byte areas and the checksum.
+#![tactic(auto)]
+
 pub mod adler;
 pub mod area;
 pub mod limits;

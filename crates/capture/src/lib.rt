@@ -1,4 +1,6 @@
 // Captures: what a receiver was sent and told, in a file.
+#![tactic(auto)]
+
 pub mod inspecting;
 mod lines;
 pub mod reader;

@@ -1,4 +1,6 @@
 // Prints published Adler-32 values and some over long runs of one byte, to be compared with what zlib gives.
+#![tactic(auto)]
+
 use base::adler32;
 use std::io;
 

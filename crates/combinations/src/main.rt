@@ -1,4 +1,6 @@
 // Runs one script over every shelf with every outlet. What it prints is the same for all of them.
+#![tactic(auto)]
+
 use anyhow::anyhow;
 use base::Refusal;
 use outlets::{ImageOutlet, Record, TableOutlet, image_fits, table_fits};

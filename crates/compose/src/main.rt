@@ -1,5 +1,7 @@
 // Turns a text on standard input into a capture on standard output. The token for sealed packets is the first argument, in
 // hexadecimal.
+#![tactic(auto)]
+
 use anyhow::anyhow;
 use base::limits::{MAX_CAPTURE, MAX_TOKEN};
 use composing::compose;

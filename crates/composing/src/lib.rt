@@ -1,4 +1,6 @@
 // Composing a capture from a text.
+#![tactic(auto)]
+
 mod data;
 mod fields;
 mod kinds;

@@ -1,5 +1,7 @@
 // Puts entries of all five kinds into an image, in memory that was not zero before, and compares the image with the one that
 // `samples/image.py` writes.
+#![tactic(auto)]
+
 use anyhow::anyhow;
 use base::Refusal;
 use outlets::{ImageOutlet, image_fits};

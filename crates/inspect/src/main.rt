@@ -1,4 +1,6 @@
 // Prints what is in the capture on standard input, a line for each record.
+#![tactic(auto)]
+
 use base::limits::MAX_CAPTURE;
 use page::Page;
 use std::io;

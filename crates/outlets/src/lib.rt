@@ -1,4 +1,6 @@
 // The outlets that come with Soccerpine.
+#![tactic(auto)]
+
 pub mod image;
 pub mod table;
 

@@ -1,4 +1,6 @@
 // A text in memory that was got before it is written.
+#![tactic(auto)]
+
 mod page;
 mod writing;
 

@@ -1,4 +1,6 @@
 // Packets in reassembly: their fragments come in any order, and are joined over lent memory.
+#![tactic(auto)]
+
 pub mod head;
 pub mod reassembly;
 mod table;

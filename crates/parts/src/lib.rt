@@ -1,4 +1,6 @@
 // What a channel is put together from: the traits of its parts.
+#![tactic(auto)]
+
 pub mod coder;
 pub mod entry;
 pub mod outlet;

@@ -1,4 +1,6 @@
 // A list kept in number order, over lent rows.
+#![tactic(auto)]
+
 pub mod list;
 pub mod mapping;
 pub mod row;

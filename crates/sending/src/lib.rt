@@ -1,4 +1,6 @@
 // The sending half of the wire: packing a datagram, and what ties packing to reading.
+#![tactic(auto)]
+
 pub mod packer;
 pub mod packing;
 mod piece;

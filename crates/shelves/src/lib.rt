@@ -1,4 +1,6 @@
 // The shelves that come with Soccerpine: packets in lent memory, by their first numbers.
+#![tactic(auto)]
+
 mod area;
 pub mod heaped;
 mod heaping;

@@ -1,4 +1,6 @@
 // The parts that come with Soccerpine.
+#![tactic(auto)]
+
 pub mod token;
 pub mod untokened;
 

@@ -1,4 +1,6 @@
 // Values at which the definitions can be checked by hand, as one theorem.
+#![tactic(auto)]
+
 ghost use Rattle.values.specs.Values.{Values};
 
 /// The definitions give all of these values together.

@@ -1,4 +1,6 @@
 // Datagrams: reading one, finding its coded body, and splitting a plain body into messages.
+#![tactic(auto)]
+
 pub mod body;
 pub mod datagram;
 mod fields;

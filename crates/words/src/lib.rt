@@ -1,4 +1,6 @@
 // Lines, words, numbers and hexadecimal bytes of a text.
+#![tactic(auto)]
+
 ghost use Rattle.std.specs.Prelude.{◌≡◌, ◌+◌, ◌-◌, ◌*◌, ◌/◌, ◌^◌, ◌<◌, ◌≤◌, true, length, is_some, IfSome, if◌then◌else◌, Some, None};
 ghost use Rattle.words.specs.Words.{place_of, spaces_of, line_of, after_line, word_of, after_word, is_digit, under, number_of, hex_digit_of, hex_byte_of, hex_of, fitting, size_of, over_front};
 
