@@ -14,6 +14,15 @@ abbrev pub ascends : {P : Type 0} → List (Row P) → Bool
 ascends [] = true
 ascends (x ∷ xs) = all_from x.number xs && ascends xs
 
+-- Every row has a number above k; every row has one above an earlier row's.
+abbrev pub all_above : {P : Type 0} → ℕ → List (Row P) → Bool
+all_above k [] = true
+all_above k (x ∷ xs) = nat_lt k x.number && all_above k xs
+
+abbrev pub rises : {P : Type 0} → List (Row P) → Bool
+rises [] = true
+rises (x ∷ xs) = all_above x.number xs && rises xs
+
 -- How many rows stand before a number's place, which is before or behind the rows that have it.
 abbrev pub is_before : {P : Type 0} → Side → ℕ → Row P → Bool
 is_before Before k x = nat_lt x.number k

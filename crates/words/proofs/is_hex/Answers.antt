@@ -2,8 +2,8 @@ use Rattle.std.proofs.Common.{◌*◌, eqb, length, ap, ◌∙◌, arith, rules}
 use Rattle.words.proofs.Hexes.{hex_more, hex_bad, hex_end}
 use Rattle.words.proofs.is_hex.Goals as goal
 
-pub returns-then-is-none : goal.returns-then-is-none
-returns-then-is-none c = search (rules, hex_bad)
+pub returns-then-is_none : goal.returns-then-is_none
+returns-then-is_none c = search (rules, hex_bad)
 
 pub loop-i-preserved : goal.loop-i-preserved
 loop-i-preserved c = search (rules, hex_more)

@@ -2,11 +2,11 @@ use Rattle.std.proofs.Common.{rules}
 use Rattle.words.proofs.Numbers.{number-all, number-other, number-long, number_more, under-less}
 use Rattle.words.proofs.number.Goals as goal
 
-pub returns-in-err-digit : goal.returns-in-err-digit
-returns-in-err-digit c = search (rules, number-other)
+pub returns-in_err-digit : goal.returns-in_err-digit
+returns-in_err-digit c = search (rules, number-other)
 
-pub returns-in-err-value : goal.returns-in-err-value
-returns-in-err-value c = search (rules, number-long)
+pub returns-in_err-value : goal.returns-in_err-value
+returns-in_err-value c = search (rules, number-long)
 
 pub loop-b-preserved : goal.loop-b-preserved
 loop-b-preserved c = (search (rules, number_more), search (rules, under-less))

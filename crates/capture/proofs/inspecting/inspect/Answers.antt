@@ -9,22 +9,22 @@ use Rattle.capture.proofs.inspecting.inspect.Goals as goal
 pub returns-in-None : goal.returns-in-None
 returns-in-None c =
     let s = sheet c.args.page.now in
-    let t = sheet c.push-malformed.new.page in
+    let t = sheet c.push_malformed.new.page in
     let pieces = inspect_pieces c.args.bytes.now in
     let is = ap capture_pieces c.in-None.ensures in
-    let text = c.push-malformed.ensures.text ∙ ap (wrote_all s) is in
-    let short = subst (λ p. length (concat p) ≤ 72) is c.push-malformed.ensures.short in
+    let text = c.push_malformed.ensures.text ∙ ap (wrote_all s) is in
+    let short = subst (λ p. length (concat p) ≤ 72) is c.push_malformed.ensures.short in
     record { text = text; whole = λ h. all_written s t pieces inspect_room text (omega arith) h }
 
 pub returns-in-Some : goal.returns-in-Some
 returns-in-Some c =
     let s = sheet c.args.page.now in
-    let t = sheet c.push-records.new.page in
+    let t = sheet c.push_records.new.page in
     let bytes = c.args.bytes.now in
     let pieces = inspect_pieces bytes in
     let contents : Contents = record { channel = c.in-Some.capture.channel; start = c.in-Some.capture.start; records = c.in-Some.capture.records.now } in
     let fit = records-fit bytes contents c.in-Some.ensures in
     let is = ap capture_pieces c.in-Some.ensures in
-    let text = c.push-records.ensures.text ∙ ap (wrote_all s) is in
-    let short = subst (λ p. length (concat p) ≤ inspect_room) is (omega (arith, c.push-records.ensures.short, fit)) in
+    let text = c.push_records.ensures.text ∙ ap (wrote_all s) is in
+    let short = subst (λ p. length (concat p) ≤ inspect_room) is (omega (arith, c.push_records.ensures.short, fit)) in
     record { text = text; whole = λ h. all_written s t pieces inspect_room text (omega arith) h }

@@ -6,8 +6,8 @@ use Rattle.capture.specs.Inspecting.{is_hidden, packet_pieces, newline}
 use Rattle.capture.proofs.Written.{both_long, line_written, hidden_is, shown_is, shown_part}
 use Rattle.capture.proofs.inspecting.push_data.Goals as goal
 
-pub returns-then-is-hidden : goal.returns-then-is-hidden
-returns-then-is-hidden c =
+pub returns-then-is_hidden : goal.returns-then-is_hidden
+returns-then-is_hidden c =
     let s = sheet c.args.page.now in
     let d = c.args.datagram.now in
     let p = c.args.packet in
@@ -18,7 +18,7 @@ returns-then-is-hidden c =
       text = search rules;
       short =
           subst (λ pieces. length (concat pieces) ≤ 400 + 6 * length d) is
-          (omega (arith, both_long (packet_pieces c.args.index c.args.channel p) newline, c.push-packet.ensures.short));
+          (omega (arith, both_long (packet_pieces c.args.index c.args.channel p) newline, c.push_packet.ensures.short));
     }
 
 pub returns : goal.returns
@@ -33,6 +33,6 @@ returns c =
     let size : length plain ≤ length d =
     omega (arith, ap length part, length-take (p.end - p.start) (drop p.start d), length-drop p.start d) in
     record {
-      text = c.push-plain.ensures.text ∙ ap (wrote_all s) is;
-      short = subst (λ pieces. length (concat pieces) ≤ 400 + 6 * length d) is (omega (arith, c.push-plain.ensures.short));
+      text = c.push_plain.ensures.text ∙ ap (wrote_all s) is;
+      short = subst (λ pieces. length (concat pieces) ≤ 400 + 6 * length d) is (omega (arith, c.push_plain.ensures.short));
     }

@@ -16,5 +16,5 @@ returns-in-Ok c =
     c.in-Ok.ensures.lengths (sheet c.args.page.now) in
     let short =
     plain_short c.args.index c.args.channel p messages (messages_in m) (lengths_in m) c.in-Ok.ensures.value
-    c.in-Ok.ensures.lengths (length plain) c.push-packet.ensures.short c.push-lengths.ensures.short c.in-Ok.ensures.few in
+    c.in-Ok.ensures.lengths (length plain) c.push_packet.ensures.short c.push_lengths.ensures.short c.in-Ok.ensures.few in
     record { text = search rules; short = short }

@@ -22,8 +22,8 @@ returns-in-Malformed c =
     lines_last c.args.channel (length c.args.records.now) c.records.index c.records.rest.now c.records.invariant.1 malformed
     c.in-Malformed.ensures.found in
     record {
-      text = c.push-malformed.ensures.text ∙ ap (wrote_all (sheet c.records.page)) (sym line) ∙ c.records.invariant.2;
-      short = omega (arith, ap (λ l. length (concat l)) line, c.push-malformed.ensures.short, c.records.invariant.3);
+      text = c.push_malformed.ensures.text ∙ ap (wrote_all (sheet c.records.page)) (sym line) ∙ c.records.invariant.2;
+      short = omega (arith, ap (λ l. length (concat l)) line, c.push_malformed.ensures.short, c.records.invariant.3);
     }
 
 pub records-preserved : goal.records-preserved
@@ -32,12 +32,12 @@ records-preserved c =
     let size = length c.args.records.now in
     let index = c.records.index in
     let rest = c.records.rest.now in
-    let more = c.match-next-record.rest.now in
+    let more = c.match-next_record.rest.now in
     let s = sheet c.records.page in
-    let t = sheet c.match-next-record.page in
+    let t = sheet c.match-next_record.page in
     let left = lines_left channel size index rest in
     let then = lines_left channel size (index + 1) more in
-    elim c.match-next-record.branch [
+    elim c.match-next_record.branch [
       | in-Datagram w ↦
           let same = ap (λ x. x.now) w.rest-is in
           let d = w.in-Datagram.bytes.now in
@@ -46,8 +46,8 @@ records-preserved c =
           let takes : 3 + length d + length more ≡ length rest = omega (arith, ap length same, w.in-Datagram.ensures.takes) in (
             omega arith,
             omega arith,
-            line_more s t line then left (ap sheet w.page-is ∙ w.push-datagram.ensures.text) lines ∙ c.records.invariant.2,
-            omega (arith, ap (λ l. length (concat l)) lines, both_long line then, w.push-datagram.ensures.short, c.records.invariant.3),
+            line_more s t line then left (ap sheet w.page-is ∙ w.push_datagram.ensures.text) lines ∙ c.records.invariant.2,
+            omega (arith, ap (λ l. length (concat l)) lines, both_long line then, w.push_datagram.ensures.short, c.records.invariant.3),
           )
       | in-Judge w ↦
           let same = ap (λ x. x.now) w.rest-is in
@@ -57,7 +57,7 @@ records-preserved c =
           let takes : 9 + length more ≡ length rest = omega (arith, ap length same, w.in-Judge.ensures.takes) in (
             omega arith,
             omega arith,
-            line_more s t line then left (ap sheet w.page-is ∙ w.push-judge.ensures.text) lines ∙ c.records.invariant.2,
-            omega (arith, ap (λ l. length (concat l)) lines, both_long line then, w.push-judge.ensures.short, c.records.invariant.3),
+            line_more s t line then left (ap sheet w.page-is ∙ w.push_judge.ensures.text) lines ∙ c.records.invariant.2,
+            omega (arith, ap (λ l. length (concat l)) lines, both_long line then, w.push_judge.ensures.short, c.records.invariant.3),
           )
     ]

@@ -12,7 +12,7 @@ pub loop-length-preserved : goal.loop-length-preserved
 loop-length-preserved c =
     let fours = c.args.messages.lengths.now in
     let i = c.loop-length.length-index in
-    let n = c.from-be-bytes.result in
+    let n = c.from_be_bytes.result in
     let same : n ≡ be 4 (get_or fours i []) 0 = omega arith in
     let turn = lengths-more (λ ls. wrote_all (sheet c.loop-length.page) (length_pieces ls)) fours i n (omega arith) same in
     let more = lengths-more (λ ls. length (concat (length_pieces ls))) fours i n (omega arith) same in

@@ -5,7 +5,7 @@ use Rattle.capture.proofs.reader.next_record.Goals as goal
 pub returns-in-2 : goal.returns-in-2
 returns-in-2 c =
     record {
-      found = judge-cut c.args.records.now c.from-be-bytes.result (search rules) (search rules) (search rules);
+      found = judge-cut c.args.records.now c.from_be_bytes.result (search rules) (search rules) (search rules);
       takes = search rules;
     }
 

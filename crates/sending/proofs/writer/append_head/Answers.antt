@@ -9,10 +9,10 @@ behind e w p = cc
 
 pub returns : goal.returns
 returns c =
-    let start = c.append-at.ensures.front ∙ ap (λ words. 0xFF ∷ (1 ∷ (words ∷ (c.args.packing.sender ∷ [])))) c.header-words-words.ensures in
-    let market = behind start c.append-at-2.ensures.front c.to-be-bytes.ensures in
-    let channel = behind market c.append-at-3.ensures.front c.to-be-bytes-2.ensures in
-    let first = behind channel c.append-at-4.ensures.front (c.to-be-bytes-3.ensures ∙ sym (eight_bytes c.args.packing.first)) in
-    let count = behind first c.append-at-5.ensures.front c.to-be-bytes-4.ensures in
-    let flag = behind count c.append.ensures.front (c.to-be-bytes-5.ensures ∙ ap (be_bytes 2) c.flag-word.ensures) in
+    let start = c.append-at.ensures.front ∙ ap (λ words. 0xFF ∷ (1 ∷ (words ∷ (c.args.packing.sender ∷ [])))) c.header_words-words.ensures in
+    let market = behind start c.append-at-2.ensures.front c.to_be_bytes.ensures in
+    let channel = behind market c.append-at-3.ensures.front c.to_be_bytes-2.ensures in
+    let first = behind channel c.append-at-4.ensures.front (c.to_be_bytes-3.ensures ∙ sym (eight_bytes c.args.packing.first)) in
+    let count = behind first c.append-at-5.ensures.front c.to_be_bytes-4.ensures in
+    let flag = behind count c.append.ensures.front (c.to_be_bytes-5.ensures ∙ ap (be_bytes 2) c.flag_word.ensures) in
     record { end = omega arith; front = flag }

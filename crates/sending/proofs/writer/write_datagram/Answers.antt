@@ -3,4 +3,4 @@ use Rattle.sending.proofs.writer.write_datagram.Goals as goal
 
 pub returns : goal.returns
 unfolding datagram_for
-returns g c = record { end = c.write-encoded.ensures.end; whole = c.write-encoded.ensures.whole; size = c.write-encoded.ensures.size }
+returns g c = record { end = c.write_encoded.ensures.end; whole = c.write_encoded.ensures.whole; size = c.write_encoded.ensures.size }

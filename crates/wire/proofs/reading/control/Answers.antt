@@ -3,4 +3,4 @@ use Rattle.wire.proofs.reading.control.Goals as goal
 
 pub returns : goal.returns
 unfolding control_of
-returns c = record { value = c.control-rows.ensures.value; bounds = c.control-rows.ensures.bounds }
+returns c = record { value = c.control_rows.ensures.value; bounds = c.control_rows.ensures.bounds }

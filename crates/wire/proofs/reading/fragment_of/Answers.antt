@@ -3,4 +3,4 @@ use Rattle.wire.proofs.reading.fragment_of.Goals as goal
 
 pub returns : goal.returns
 unfolding fragment_of
-returns c = record { value = c.fragment-rows.ensures.value; bounds = c.fragment-rows.ensures.bounds }
+returns c = record { value = c.fragment_rows.ensures.value; bounds = c.fragment_rows.ensures.bounds }

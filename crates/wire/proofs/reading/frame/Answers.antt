@@ -3,4 +3,4 @@ use Rattle.wire.proofs.reading.frame.Goals as goal
 
 pub returns : goal.returns
 unfolding frame_of
-returns c = record { value = c.frame-rows.ensures.value; sized = c.frame-rows.ensures.sized }
+returns c = record { value = c.frame_rows.ensures.value; sized = c.frame_rows.ensures.sized }

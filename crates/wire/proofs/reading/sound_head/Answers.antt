@@ -3,4 +3,4 @@ use Rattle.wire.proofs.reading.sound_head.Goals as goal
 
 pub returns : goal.returns
 unfolding sound_head
-returns c = record { value = c.head-rows.ensures.value; sized = c.head-rows.ensures.sized }
+returns c = record { value = c.head_rows.ensures.value; sized = c.head_rows.ensures.sized }

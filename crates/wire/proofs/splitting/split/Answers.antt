@@ -18,7 +18,7 @@ returns c =
     let body = c.args.body.now in
     let bytes : Bytes body = search rules in
     record {
-      value = c.cut-by-lengths.ensures.value;
-      lengths = lengths count body c.cut-by-lengths.result bytes c.cut-by-lengths.ensures.value c.cut-by-lengths.ensures.lengths;
+      value = c.cut_by_lengths.ensures.value;
+      lengths = lengths count body c.cut_by_lengths.result bytes c.cut_by_lengths.ensures.value c.cut_by_lengths.ensures.lengths;
       exact = record { only = λ ms e. only count body ms bytes e; every = every count body };
     }

@@ -6,10 +6,10 @@ pub returns : goal.returns
 returns c =
     record {
       value = simp (
-        c.copy-from-slice.ensures.after,
-        c.copy-from-slice-2.ensures.after,
-        c.to-be-bytes.ensures ∙ sym (eight_bytes _),
-        c.to-be-bytes-2.ensures ∙ sym (eight_bytes _),
+        c.copy_from_slice.ensures.after,
+        c.copy_from_slice-2.ensures.after,
+        c.to_be_bytes.ensures ∙ sym (eight_bytes _),
+        c.to_be_bytes-2.ensures ∙ sym (eight_bytes _),
         c.numbers-first.ensures,
         c.letter.ensures,
       );

@@ -4,8 +4,8 @@ use Rattle.rows.specs.Meaning.{rows_of}
 use Rattle.rows.proofs.Orders.{at, absent}
 use Rattle.rows.proofs.list.OrderedList.find.Goals as goal
 
-pub returns-in-default : goal.returns-in-default
-returns-in-default g c =
+pub returns-in_default : goal.returns-in_default
+returns-in_default g c =
     let none : index_of c.args.number (rows_of c.args.self.now) ≡ None = cc in
     sym (absent c.args.number (rows_of c.args.self.now) none).row
 

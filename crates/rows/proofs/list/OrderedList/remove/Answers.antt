@@ -5,27 +5,27 @@ use Rattle.rows.specs.Meaning.{rows_of}
 use Rattle.rows.proofs.Orders.{at, absent, ascends-remove}
 use Rattle.rows.proofs.list.OrderedList.remove.Goals as goal
 
-pub returns-in-default : goal.returns-in-default
-returns-in-default g c =
+pub returns-in_default : goal.returns-in_default
+returns-in_default g c =
     let none : index_of c.args.number (rows_of c.args.self.now) ≡ None = cc in
     let lacks = absent c.args.number (rows_of c.args.self.now) none in
     record { answer = sym lacks.row; after = sym lacks.without; room = refl }
 
-pub close-at-requires : goal.close-at-requires
-close-at-requires g c =
+pub close_at-requires : goal.close_at-requires
+close_at-requires g c =
     let n = length-take-le c.args.self.now.lent.len c.args.self.now.lent.rows.now c.args.self.now.fits in
     let some : index_of c.args.number (rows_of c.args.self.now) ≡ Some c.in-Some.i = cc in
     (omega (arith, (at c.args.number (rows_of c.args.self.now) c.in-Some.i some).within), c.args.self.now.fits)
 
-pub invariant-of-self : goal.invariant-of-self
-invariant-of-self g c =
+pub invariant_of-self : goal.invariant_of-self
+invariant_of-self g c =
     let some : index_of c.args.number (rows_of c.args.self.now) ≡ Some c.in-Some.i = cc in
-    let out : take c.close-at.new.self.len c.close-at.new.self.rows.now ≡ remove_by c.args.number (rows_of c.args.self.now) =
-    c.close-at.ensures.after ∙ sym (at c.args.number (rows_of c.args.self.now) c.in-Some.i some).without in
-    (omega arith, (rw out (ascends-remove c.args.number (rows_of c.args.self.now) c.args.self.now.sorted), tt))
+    let out : take c.close_at.new.self.len c.close_at.new.self.rows.now ≡ remove_by c.args.number (rows_of c.args.self.now) =
+    c.close_at.ensures.after ∙ sym (at c.args.number (rows_of c.args.self.now) c.in-Some.i some).without in
+    record { fits = omega arith; sorted = rw out (ascends-remove c.args.number (rows_of c.args.self.now) c.args.self.now.sorted) }
 
 pub returns : goal.returns
 returns g c =
     let some : index_of c.args.number (rows_of c.args.self.now) ≡ Some c.in-Some.i = cc in
     let has = at c.args.number (rows_of c.args.self.now) c.in-Some.i some in
-    record { answer = c.get-row.ensures ∙ sym has.row; after = c.close-at.ensures.after ∙ sym has.without; room = c.close-at.ensures.room }
+    record { answer = c.get-row.ensures ∙ sym has.row; after = c.close_at.ensures.after ∙ sym has.without; room = c.close_at.ensures.room }
