@@ -2,9 +2,9 @@ use Rattle.std.proofs.Common.{rules}
 use Rattle.composing.specs.Lines.{stage_after}
 use Rattle.composing.proofs.kinds.stage_after.Goals as goal
 
-pub returns-then-is-idle : goal.returns-then-is-idle
+pub returns-then-is_idle : goal.returns-then-is_idle
 unfolding stage_after
-returns-then-is-idle c = search rules
+returns-then-is_idle c = search rules
 
 pub returns : goal.returns
 unfolding stage_after

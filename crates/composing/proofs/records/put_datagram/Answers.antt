@@ -9,9 +9,9 @@ pub returns : goal.returns
 returns c =
     let out = c.args.out.now in
     let d = c.args.datagram.now in
-    let size = c.to-be-bytes.result in
+    let size = c.to_be_bytes.result in
     let head = 1 ∷ (get_or size 0 0 ∷ (get_or size 1 0 ∷ [])) in
     let same : head ≡ 1 ∷ be_bytes 2 (length d) = search rules in
-    front_two out head d c.write-at.new.area c.write-at-2.new.area c.in-ok-start.start c.write-at-2.result
-    c.in-ok-start.ensures.end c.write-at.ensures.after c.write-at-2.ensures.end c.write-at-2.ensures.after
+    front_two out head d c.write_at.new.area c.write_at-2.new.area c.in_ok-start.start c.write_at-2.result
+    c.in_ok-start.ensures.end c.write_at.ensures.after c.write_at-2.ensures.end c.write_at-2.ensures.after
     ∙ ap (λ h. sized (fitting (length out) (Some (h ++ d)))) same

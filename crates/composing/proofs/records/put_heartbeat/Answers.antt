@@ -3,9 +3,9 @@ use Rattle.composing.specs.Composing.{heartbeat_of}
 use Rattle.composing.proofs.Fronts.{none_put, some-put}
 use Rattle.composing.proofs.records.put_heartbeat.Goals as goal
 
-pub returns-in-default : goal.returns-in-default
+pub returns-in_default : goal.returns-in_default
 unfolding heartbeat_of
-returns-in-default c = search (rules, none_put)
+returns-in_default c = search (rules, none_put)
 
 pub returns : goal.returns
 unfolding heartbeat_of

@@ -7,28 +7,28 @@ use Rattle.composing.proofs.records.put_hex.Goals as goal
 pub returns-then-out-lt3 : goal.returns-then-out-lt3
 returns-then-out-lt3 c = search (rules, hex_short)
 
-pub returns-in-err-size : goal.returns-in-err-size
-returns-in-err-size c = search (rules, hex_none)
+pub returns-in_err-size : goal.returns-in_err-size
+returns-in_err-size c = search (rules, hex_none)
 
 pub returns-then-size-gt65535 : goal.returns-then-size-gt65535
 returns-then-size-gt65535 c =
     let out = c.args.out.now in
-    hex_large (length out) (length (take (length out - 3) (drop 3 out))) c.in-ok-size.size c.args.word.now c.in-ok-size.ensures.size
+    hex_large (length out) (length (take (length out - 3) (drop 3 out))) c.in_ok-size.size c.args.word.now c.in_ok-size.ensures.size
     (search rules)
 
 pub returns : goal.returns
 returns c =
     let out = c.args.out.now in
     let old = take (length out - 3) (drop 3 out) in
-    let size = c.in-ok-size.size in
-    let part = c.hex-into.new.out in
-    let two = c.write-at.new.area in
-    let bytes = c.to-be-bytes.result in
+    let size = c.in_ok-size.size in
+    let part = c.hex_into.new.out in
+    let two = c.write_at.new.area in
+    let bytes = c.to_be_bytes.result in
     let head = 1 ∷ (get_or bytes 0 0 ∷ (get_or bytes 1 0 ∷ [])) in
     let same : head ≡ 1 ∷ be_bytes 2 size = search rules in
     let over =
-    three_over out (put_mid 3 (length out - 3) out part) two part head (length out - 3) c.in-ok-start.start refl (search rules) (search rules) refl
-    c.in-ok-start.ensures.end c.in-ok-start.ensures.after in
-    hex_put (length out) (length old) size c.in-ok-start.start c.args.word.now old (drop (3 + length part) out) two head (search rules)
-    c.in-ok-size.ensures.size over.0 refl same (search rules)
-    (over.1 ∙ ap (λ p. head ++ (p ++ drop (3 + length part) out)) c.in-ok-size.ensures.after)
+    three_over out (put_mid 3 (length out - 3) out part) two part head (length out - 3) c.in_ok-start.start refl (search rules) (search rules) refl
+    c.in_ok-start.ensures.end c.in_ok-start.ensures.after in
+    hex_put (length out) (length old) size c.in_ok-start.start c.args.word.now old (drop (3 + length part) out) two head (search rules)
+    c.in_ok-size.ensures.size over.0 refl same (search rules)
+    (over.1 ∙ ap (λ p. head ++ (p ++ drop (3 + length part) out)) c.in_ok-size.ensures.after)

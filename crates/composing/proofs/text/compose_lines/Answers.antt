@@ -5,41 +5,41 @@ use Rattle.composing.proofs.Loops.{line_bad, line_within, line_more, line_shorte
 use Rattle.composing.proofs.text.compose_lines.Given as given
 use Rattle.composing.proofs.text.compose_lines.Goals as goal
 
-pub returns-in-default : goal.returns-in-default
-returns-in-default g c =
+pub returns-in_default : goal.returns-in_default
+returns-in_default g c =
     let area = c.lines.area in
     let at = c.lines.at in
-    let bad = line_bad (g.C.OpeningCoder.ready c.args.coder.now) (g.C.SealingCoder.seals c.args.coder.now) (length c.args.area.now) c.lines.number at c.lines.stage area c.lines.rest.now c.split-line.result.0.now
-    c.split-line.result.1.now (take (length area - at) (drop at area))
-    (composed_from (g.C.OpeningCoder.ready c.args.coder.now) (g.C.SealingCoder.seals c.args.coder.now) (length c.args.area.now) Fresh 1 [] (lines_of c.args.text.now)) c.lines.invariant.0 (search rules) c.split-line.ensures.line
-    c.split-line.ensures.rest (search rules) c.lines.invariant.1 (search rules) c.in-default.ensures in
+    let bad = line_bad (g.C.OpeningCoder.ready c.args.coder.now) (g.C.SealingCoder.seals c.args.coder.now) (length c.args.area.now) c.lines.number at c.lines.stage area c.lines.rest.now c.split_line.result.0.now
+    c.split_line.result.1.now (take (length area - at) (drop at area))
+    (composed_from (g.C.OpeningCoder.ready c.args.coder.now) (g.C.SealingCoder.seals c.args.coder.now) (length c.args.area.now) Fresh 1 [] (lines_of c.args.text.now)) c.lines.invariant.0 (search rules) c.split_line.ensures.line
+    c.split_line.ensures.rest (search rules) c.lines.invariant.1 (search rules) c.in_default.ensures in
     record { capture = bad; within = tt }
 
-fits : (g : given.Over) (c : goal.After-stage-after-stage g) → c.lines.at + c.in-Some.size ≤ length c.args.area.now
+fits : (g : given.Over) (c : goal.After-stage_after-stage g) → c.lines.at + c.in-Some.size ≤ length c.args.area.now
 fits g c =
     let area = c.lines.area in
     let at = c.lines.at in
-    line_within (g.C.OpeningCoder.ready c.args.coder.now) (g.C.SealingCoder.seals c.args.coder.now) (length c.args.area.now) c.lines.number at c.lines.stage area c.lines.rest.now c.split-line.result.0.now
-    c.split-line.result.1.now (take (length area - at) (drop at area))
-    (composed_from (g.C.OpeningCoder.ready c.args.coder.now) (g.C.SealingCoder.seals c.args.coder.now) (length c.args.area.now) Fresh 1 [] (lines_of c.args.text.now)) c.lines.invariant.0 (search rules) c.split-line.ensures.line
-    c.split-line.ensures.rest (search rules) c.lines.invariant.1 (search rules) c.in-Some.size c.put-line.new.out c.in-Some.ensures
+    line_within (g.C.OpeningCoder.ready c.args.coder.now) (g.C.SealingCoder.seals c.args.coder.now) (length c.args.area.now) c.lines.number at c.lines.stage area c.lines.rest.now c.split_line.result.0.now
+    c.split_line.result.1.now (take (length area - at) (drop at area))
+    (composed_from (g.C.OpeningCoder.ready c.args.coder.now) (g.C.SealingCoder.seals c.args.coder.now) (length c.args.area.now) Fresh 1 [] (lines_of c.args.text.now)) c.lines.invariant.0 (search rules) c.split_line.ensures.line
+    c.split_line.ensures.rest (search rules) c.lines.invariant.1 (search rules) c.in-Some.size c.put_line.new.out c.in-Some.ensures
 
-pub overflow-add-at : goal.overflow-add-at
-overflow-add-at g c = let h = fits g c in search rules
+pub overflow_add-at : goal.overflow_add-at
+overflow_add-at g c = let h = fits g c in search rules
 
 pub lines-smaller : goal.lines-smaller
-lines-smaller g c = line_shorter c.lines.rest.now c.split-line.result.1.now (search rules) c.split-line.ensures.rest
+lines-smaller g c = line_shorter c.lines.rest.now c.split_line.result.1.now (search rules) c.split_line.ensures.rest
 
 pub lines-preserved : goal.lines-preserved
 lines-preserved g c =
     let area = c.lines.area in
     let at = c.lines.at in
-    let shorter = line_shorter c.lines.rest.now c.split-line.result.1.now (search rules) c.split-line.ensures.rest in (
-      line_more (g.C.OpeningCoder.ready c.args.coder.now) (g.C.SealingCoder.seals c.args.coder.now) (length c.args.area.now) c.lines.number at c.lines.stage area c.lines.rest.now c.split-line.result.0.now
-          c.split-line.result.1.now (take (length area - at) (drop at area))
-          (composed_from (g.C.OpeningCoder.ready c.args.coder.now) (g.C.SealingCoder.seals c.args.coder.now) (length c.args.area.now) Fresh 1 [] (lines_of c.args.text.now)) c.lines.invariant.0 (search rules) c.split-line.ensures.line
-          c.split-line.ensures.rest (search rules) c.lines.invariant.1 (search rules) c.in-Some.size c.put-line.new.out c.in-Some.ensures
-          (search rules) c.stage-after-stage.result c.stage-after-stage.ensures,
+    let shorter = line_shorter c.lines.rest.now c.split_line.result.1.now (search rules) c.split_line.ensures.rest in (
+      line_more (g.C.OpeningCoder.ready c.args.coder.now) (g.C.SealingCoder.seals c.args.coder.now) (length c.args.area.now) c.lines.number at c.lines.stage area c.lines.rest.now c.split_line.result.0.now
+          c.split_line.result.1.now (take (length area - at) (drop at area))
+          (composed_from (g.C.OpeningCoder.ready c.args.coder.now) (g.C.SealingCoder.seals c.args.coder.now) (length c.args.area.now) Fresh 1 [] (lines_of c.args.text.now)) c.lines.invariant.0 (search rules) c.split_line.ensures.line
+          c.split_line.ensures.rest (search rules) c.lines.invariant.1 (search rules) c.in-Some.size c.put_line.new.out c.in-Some.ensures
+          (search rules) c.stage_after-stage.result c.stage_after-stage.ensures,
       fits g c,
       omega (arith, shorter, c.lines.invariant.2),
     )
