@@ -1,7 +1,7 @@
 -- How rows move for one that is put in or taken out.
-use Rattle.std.proofs.Common.{◌≡◌, ℕ, ◌+◌, ◌-◌, ◌<◌, ◌≤◌, ◌≢◌, List, length, get_or, take, set, sym, ap, ◌∙◌, ⊎_elim, arith}
+use Rattle.std.proofs.Common.{◌≡◌, ℕ, ◌+◌, ◌-◌, ◌<◌, ◌≤◌, ◌≢◌, List, ◌∷◌, length, get_or, take, drop, set, sym, ap, ◌∙◌, ⊎_elim, arith}
 use Rattle.std.specs.List.{insert, remove}
-use Rattle.std.proofs.lemmas.List.{same_lists, length-take-le, length-set, get_or-take, get_or-set_same, get_or-set_other}
+use Rattle.std.proofs.lemmas.List.{same_lists, length-take-le, length-set, length-drop, get_or-take, get_or-drop, get_or-set_same, get_or-set_other, drop_more}
 use Rattle.std.proofs.lemmas.List.Edits.{length-insert, length-remove, get_or-insert_below, get_or-insert_at, get_or-insert_above, get_or-remove_below, get_or-remove_above}
 use Rattle.std.proofs.lemmas.Bool.{cases_order, cases_lt}
 
@@ -40,3 +40,28 @@ closed xs zs len i a b same below above =
     (λ lt. below k d lt ∙ sym (get_or-remove_below (take len xs) i d k lt (omega arith) ∙ get_or-take len xs k d (omega arith)))
     (λ ge. above k d ge (omega arith) ∙ sym (get_or-remove_above (take len xs) i d k ge (omega arith) ∙ get_or-take len xs (k + 1) d (omega arith)))
     (cases_lt k i))
+
+-- The spare rows are as they were, but for the first, which was written over.
+pub opened_spares : {X : Type 0} (xs zs : List X) (len i : ℕ) (r : X) → i ≤ len → length zs ≡ length xs
+    → ((k : ℕ) (d : X) → len < k → k < length xs → get_or zs k d ≡ get_or xs k d)
+    → drop (len + 1) (set zs i r) ≡ drop (len + 1) xs
+opened_spares xs zs len i r a same above =
+    let n = length-drop (len + 1) (set zs i r) in
+    let m = length-set zs i r in
+    same_lists _ _ (omega (arith, length-drop (len + 1) xs))
+    (λ k d h. let ne : len + 1 + k ≢ i = omega arith in
+    get_or-drop (len + 1) (set zs i r) k d ∙ get_or-set_other zs i (len + 1 + k) r d ne ∙ above (len + 1 + k) d (omega arith) (omega arith) ∙ sym (get_or-drop (len + 1) xs k d))
+
+-- The row that is taken out becomes the first spare one.
+pub closed_spares : {X : Type 0} (xs zs : List X) (len i : ℕ) → i < len → len ≤ length xs → length zs ≡ length xs
+    → ((d : X) → get_or zs (len - 1) d ≡ get_or xs i d)
+    → ((k : ℕ) (d : X) → len ≤ k → k < length xs → get_or zs k d ≡ get_or xs k d)
+    → (d : X) → drop (len - 1) zs ≡ get_or xs i d ∷ drop len xs
+closed_spares xs zs len i a b same at above d =
+    let back : len - 1 + 1 ≡ len = omega arith in
+    let n = length-drop len zs in
+    let rest : drop len zs ≡ drop len xs =
+    same_lists _ _ (omega (arith, length-drop len xs))
+    (λ k d h. get_or-drop len zs k d ∙ above (len + k) d (omega arith) (omega arith) ∙ sym (get_or-drop len xs k d)) in
+    drop_more zs (len - 1) d (omega arith) ∙ ap (λ n. get_or zs (len - 1) d ∷ drop n zs) back
+    ∙ (ap (λ y. y ∷ drop len zs) (at d) ∙ ap (λ l. get_or xs i d ∷ l) rest)

@@ -1,6 +1,9 @@
 -- The first rows of the lent ones.
-use Rattle.std.proofs.Common.{◌≡◌, ℕ, zero, suc, ◌<◌, ◌≤◌, true, false, List, [], ◌∷◌, length, get_or, take, set, Some, None, sym, refl, ap, ◌∙◌, arith}
-use Rattle.std.proofs.lemmas.List.{length-take-le, length-set, get_or-take}
+use Rattle.std.proofs.Common.{◌≡◌, ℕ, zero, suc, ◌<◌, ◌≤◌, true, false, List, [], ◌∷◌, ◌++◌, length, get_or, take, set, is_some, Some, None, Option, sym, refl, ap, ◌∙◌, arith}
+use Rattle.std.specs.Option.{option_to_list}
+use Rattle.std.specs.List.{slice_get}
+use Rattle.std.proofs.lemmas.Option.{slice_get-get_or}
+use Rattle.std.proofs.lemmas.List.{length-take-le, length-take, length-set, get_or-take}
 use Rattle.rows.specs.Order.{ascends, is_before, place_of, index_of, with_part, change_by}
 use Rattle.rows.specs.declared.row.Row.{Row}
 use Rattle.rows.specs.declared.row.Side.{Side}
@@ -12,6 +15,16 @@ take-of_set zero xs i y = refl
 take-of_set (suc n) [] i y = refl
 take-of_set (suc n) (x ∷ xs) zero y = refl
 take-of_set (suc n) (x ∷ xs) (suc i) y = ap (λ l. x ∷ l) (take-of_set n xs i y)
+
+-- The row that is taken out, as the first of the spare ones.
+pub spare_out : {X : Type 0} (xs : List X) (len : ℕ) (zs rest : List X) (i : ℕ) (o : Option X) → i < length (take len xs) → o ≡ slice_get (take len xs) i → is_some o ≡ true
+    → ((d : X) → zs ≡ get_or xs i d ∷ rest) → zs ≡ option_to_list o ++ rest
+spare_out xs len zs rest i (Some x) lt is there at =
+    let used : get_or (take len xs) i x ≡ get_or xs i x = get_or-take len xs i x (omega (arith, length-take len xs)) in
+    let here : Some x ≡ Some (get_or xs i x) = is ∙ slice_get-get_or (take len xs) i x lt ∙ ap Some used in
+    let same : x ≡ get_or xs i x = cc in
+    at x ∙ ap (λ y. y ∷ rest) (sym same)
+spare_out xs len zs rest i None lt is there at = absurd (let e : ◌≡◌ {A = ℕ} 0 1 = cc in omega arith)
 
 module _ {P : Type 0} (xs : List (Row P)) (len : ℕ) (fits : len ≤ length xs) where
   pub place_upto : (side : Side) (i k : ℕ) → i ≤ len → ((j : ℕ) (d : Row P) → j < i → is_before side k (get_or xs j d) ≡ true)

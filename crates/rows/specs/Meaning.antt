@@ -1,5 +1,5 @@
--- What an ordered list means: its rows in order, and how many it has room for.
-use Rattle.std.specs.Prelude.{ℕ, cond, List, length, take, Ok, Err, Result, nat_lt}
+-- What an ordered list means: its rows in order, the spare rows behind them, and how many it has room for.
+use Rattle.std.specs.Prelude.{ℕ, cond, List, length, take, drop, Ok, Err, Result, nat_lt}
 use Rattle.rows.specs.Order.{insert_by}
 use Rattle.rows.specs.declared.row.Row.{Row}
 use Rattle.rows.specs.declared.list.OrderedList.{OrderedList}
@@ -7,6 +7,9 @@ use Rattle.rows.specs.declared.list.Full.{Full}
 
 abbrev pub rows_of : {P : Type 0} → OrderedList P → List (Row P)
 rows_of l = take l.lent.len l.lent.rows.now
+
+abbrev pub spares_of : {P : Type 0} → OrderedList P → List (Row P)
+spares_of l = drop l.lent.len l.lent.rows.now
 
 abbrev pub room_of : {P : Type 0} → OrderedList P → ℕ
 room_of l = length l.lent.rows.now

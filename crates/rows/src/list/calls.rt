@@ -1,8 +1,9 @@
 // What an ordered list is asked.
-ghost use Rattle.std.specs.Prelude.{◌≡◌, ◌-◌, [], length, is_some};
+ghost use Rattle.std.specs.Prelude.{◌≡◌, ◌-◌, ◌≤◌, [], ◌++◌, length, drop, is_some};
+ghost use Rattle.std.specs.Option.{option_to_list};
 ghost use Rattle.std.specs.List.{slice_get};
 ghost use Rattle.rows.specs.Order.{is_before, place_of, index_of, row_of, remove_by, change_by};
-ghost use Rattle.rows.specs.Meaning.{rows_of, room_of, insert_answer, insert_leaves};
+ghost use Rattle.rows.specs.Meaning.{rows_of, spares_of, room_of, insert_answer, insert_leaves};
 
 use super::{Full, Lent, OrderedList};
 use crate::row::{Row, Side};
@@ -20,6 +21,7 @@ impl<'a, P: Copy> OrderedList<'a, P> {
     /// An empty list over the lent rows, whatever they hold.
     pub fn new(rows: &'a mut [Row<P>]) -> OrderedList<'a, P>
         ensures rows { rows_of result ≡ [] }
+        ensures spares { spares_of result ≡ rows.old }
         ensures room { room_of result ≡ length rows.old }
     {
         OrderedList {
@@ -29,9 +31,18 @@ impl<'a, P: Copy> OrderedList<'a, P> {
 
     /// How many rows it has.
     pub fn len(&self) -> usize
-        ensures { result ≡ length (rows_of self.now) }
+        ensures value { result ≡ length (rows_of self.now) }
+        ensures within { result ≤ room_of self.now }
     {
         self.lent.len
+    }
+
+    /// How many rows it has room for.
+    pub fn room(&self) -> usize
+        ensures { result ≡ room_of self.now }
+    {
+        let rows = &*self.lent.rows;
+        rows.len()
     }
 
     /// How many rows are free.
@@ -57,6 +68,17 @@ impl<'a, P: Copy> OrderedList<'a, P> {
         ensures { result ≡ slice_get (rows_of self.now) 0 }
     {
         self.get(0)
+    }
+
+    /// The first row that is not in use, as it was when it was taken out or lent. The next insertion writes over it.
+    pub fn spare(&self) -> Option<Row<P>>
+        ensures { result ≡ slice_get (spares_of self.now) 0 }
+    {
+        let rows = &*self.lent.rows;
+        if self.lent.len == rows.len() {
+            return None;
+        }
+        Some(rows[self.lent.len])
     }
 
     fn place(&self, side: Side, number: u64) -> usize
@@ -96,6 +118,7 @@ impl<'a, P: Copy> OrderedList<'a, P> {
     pub fn insert(&mut self, row: Row<P>) -> Result<(), Full>
         ensures answer { result ≡ insert_answer (room_of self.old) (rows_of self.old) }
         ensures after { rows_of self.new ≡ insert_leaves (room_of self.old) row (rows_of self.old) }
+        ensures spares { spares_of self.new ≡ drop 1 (spares_of self.old) }
         ensures room { room_of self.new ≡ room_of self.old }
     {
         if self.lent.len == self.lent.rows.len() {
@@ -110,6 +133,7 @@ impl<'a, P: Copy> OrderedList<'a, P> {
     pub fn remove(&mut self, number: u64) -> Option<Row<P>>
         ensures answer { result ≡ row_of number (rows_of self.old) }
         ensures after { rows_of self.new ≡ remove_by number (rows_of self.old) }
+        ensures spares { spares_of self.new ≡ option_to_list result ++ spares_of self.old }
         ensures room { room_of self.new ≡ room_of self.old }
     {
         let Some(i) = self.index(number) else {

@@ -1,5 +1,5 @@
 use Rattle.std.proofs.Common.{◌≡◌, true, ltb, length, take, sym, ◌∙◌, arith}
-use Rattle.std.proofs.lemmas.List.{length-take-le}
+use Rattle.std.proofs.lemmas.List.{length-take-le, drop-drop}
 use Rattle.std.proofs.lemmas.Bool.{lt-ltb, cond-true}
 use Rattle.rows.specs.Order.{insert_by}
 use Rattle.rows.specs.Meaning.{rows_of, room_of}
@@ -24,4 +24,4 @@ returns g c =
     let free : ltb (length (rows_of c.args.self.now)) (room_of c.args.self.now) ≡ true = lt-ltb _ _ (omega arith) in
     let put : take c.open_at.new.self.len c.open_at.new.self.rows.now ≡ insert_by c.args.row (rows_of c.args.self.now) =
     c.open_at.ensures.after ∙ rw c.place-i.ensures (sym (insert_is c.args.row (rows_of c.args.self.now))) in
-    record { answer = sym (cond-true _ _ _ free); after = put ∙ sym (cond-true _ _ _ free); room = c.open_at.ensures.room }
+    record { answer = sym (cond-true _ _ _ free); after = put ∙ sym (cond-true _ _ _ free); spares = c.open_at.ensures.spares ∙ sym (drop-drop 1 c.args.self.now.lent.len c.args.self.now.lent.rows.now); room = c.open_at.ensures.room }

@@ -1,15 +1,16 @@
-use Rattle.std.proofs.Common.{◌≡◌, take, Some, None, sym, refl, ◌∙◌, arith}
+use Rattle.std.proofs.Common.{◌≡◌, take, is_some, Some, None, sym, refl, ap, ◌∙◌, arith}
 use Rattle.std.proofs.lemmas.List.{length-take-le}
 use Rattle.rows.specs.Order.{index_of, remove_by}
 use Rattle.rows.specs.Meaning.{rows_of}
 use Rattle.rows.proofs.Orders.{at, absent, ascends-remove}
+use Rattle.rows.proofs.Upto.{spare_out}
 use Rattle.rows.proofs.list.OrderedList.remove.Goals as goal
 
 pub returns-in_default : goal.returns-in_default
 returns-in_default g c =
     let none : index_of c.args.number (rows_of c.args.self.now) ≡ None = cc in
     let lacks = absent c.args.number (rows_of c.args.self.now) none in
-    record { answer = sym lacks.row; after = sym lacks.without; room = refl }
+    record { answer = sym lacks.row; after = sym lacks.without; spares = refl; room = refl }
 
 pub close_at-requires : goal.close_at-requires
 close_at-requires g c =
@@ -28,4 +29,11 @@ pub returns : goal.returns
 returns g c =
     let some : index_of c.args.number (rows_of c.args.self.now) ≡ Some c.in-Some.i = cc in
     let has = at c.args.number (rows_of c.args.self.now) c.in-Some.i some in
-    record { answer = c.get-row.ensures ∙ sym has.row; after = c.close_at.ensures.after ∙ sym has.without; room = c.close_at.ensures.room }
+    let found = c.get-row.ensures ∙ sym has.row in
+    record {
+      answer = found;
+      after = c.close_at.ensures.after ∙ sym has.without;
+      spares = spare_out c.args.self.now.lent.rows.now c.args.self.now.lent.len _ _ c.in-Some.i c.get-row.result has.within c.get-row.ensures
+          (ap is_some found ∙ has.there) c.close_at.ensures.spares;
+      room = c.close_at.ensures.room;
+    }
