@@ -1,5 +1,5 @@
 -- The loop over the records of a capture.
-use Rattle.std.proofs.Common.{◌≡◌, ℕ, suc, ◌+◌, ◌-◌, ◌≤◌, List, [], ◌∷◌, ◌++◌, length, sym, ap, ◌∙◌, append-nil, arith}
+use Rattle.std.proofs.Common.{◌≡◌, ℕ, suc, ◌+◌, ◌-◌, ◌≤◌, List, [], ◌++◌, length, sym, ap, ◌∙◌, append-nil, arith}
 use Rattle.page.specs.Text.{Sheet, wrote_all}
 use Rattle.page.proofs.Pieces.{wrote_all-append}
 use Rattle.capture.specs.Inspecting.{Pieces, record_line, lines_from}

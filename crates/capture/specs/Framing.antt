@@ -2,7 +2,7 @@
 use Rattle.std.specs.Prelude.{◌≡◌, ℕ, ◌^◌, ◌<◌, ◌≤◌, List, [], ◌∷◌, ◌++◌, length, Some}
 use Rattle.base.specs.Fields.{be_bytes}
 use Rattle.base.specs.Limits.{max_capture}
-use Rattle.capture.specs.Records.{Record, datagram, judge, malformed, Contents, contents_of, records_of}
+use Rattle.capture.specs.Records.{Record, datagram, judge, malformed, contents_of, records_of}
 
 -- byte 1, the length and the datagram; byte 2 and the number
 abbrev pub framed : Record → List ℕ

@@ -1,5 +1,5 @@
 -- What `inspect` prints: a line for each record of a capture. A line is given as its pieces, one after another.
-use Rattle.std.specs.Prelude.{ℕ, suc, ◌+◌, ◌-◌, Bool, cond, ◌||◌, List, [], ◌∷◌, ◌++◌, map, length, take, drop, is_some, Some, None, Ok, Err, codes, decimal, Option, Result}
+use Rattle.std.specs.Prelude.{ℕ, ◌+◌, ◌-◌, Bool, cond, ◌||◌, List, [], ◌∷◌, ◌++◌, map, length, take, drop, is_some, Some, None, Ok, Err, codes, decimal, Option, Result}
 use Rattle.std.specs.List.{concat}
 use Rattle.base.specs.Refusals.{rule_of}
 use Rattle.base.specs.declared.refusal.Refusal.{Refusal}

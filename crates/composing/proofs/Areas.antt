@@ -1,7 +1,7 @@
 -- A capture in its area, with zeros behind it.
-use Rattle.std.proofs.Common.{◌≡◌, ℕ, ◌-◌, ◌≤◌, List, ◌++◌, length, take, replicate, Ok, Err, Result, sym, refl, ap, ◌∙◌, arith}
+use Rattle.std.proofs.Common.{◌≡◌, ℕ, ◌-◌, ◌≤◌, List, ◌++◌, length, take, replicate, Ok, Result, sym, ap, ◌∙◌}
 use Rattle.std.proofs.lemmas.List.{length-take-le}
-use Rattle.composing.specs.Lines.{capture_in, size_in, area_after}
+use Rattle.composing.specs.Lines.{size_in, area_after}
 
 pub size-answered : (x : Result (List ℕ) ℕ) (n : ℕ) (area : List ℕ) → n ≤ length area → Ok (take n area) ≡ x → Ok n ≡ size_in x
 size-answered x n area h e = ap Ok (sym (length-take-le n area h)) ∙ ap size_in e

@@ -1,5 +1,5 @@
 -- The messages of a data line.
-use Rattle.std.proofs.Common.{◌≡◌, ℕ, ◌<◌, ◌≤◌, Bool, true, false, cond, ◌&&◌, eqb, leb, List, [], ◌∷◌, ◌++◌, length, take, drop, Some, None, codes, Option, sym, refl, ap, ◌∙◌, arith}
+use Rattle.std.proofs.Common.{◌≡◌, ℕ, ◌<◌, ◌≤◌, Bool, true, false, cond, ◌&&◌, eqb, leb, List, [], ◌∷◌, length, take, drop, Some, None, codes, Option, sym, refl, ap, ◌∙◌, arith}
 use Rattle.std.proofs.lemmas.List.{take_at}
 use Rattle.std.proofs.lemmas.Bool.Decides.{nat_tests}
 use Rattle.std.specs.Str.{bytes_eq}
@@ -8,7 +8,7 @@ use Rattle.base.specs.Limits.{max_message}
 use Rattle.words.specs.Words.{hex_of, fitting, size_of, over_front}
 use Rattle.composing.specs.Composing.{front_in, sized, mapped}
 use Rattle.composing.specs.Data.{message_of, part_of}
-use Rattle.composing.specs.declared.data.Part.TheVariants.{Size, Content}
+use Rattle.composing.specs.declared.data.Part.TheVariants.{Size}
 
 and_false : (b : Bool) → (b && false) ≡ false
 and_false true = refl

@@ -1,5 +1,5 @@
 -- What the packer answered is its datagram at the front of the buffer, or its refusal.
-use Rattle.std.proofs.Common.{◌≡◌, ℕ, ◌-◌, ◌≤◌, Bool, cond, not, eqb, List, ◌++◌, length, take, replicate, IfOk, Ok, Err, Result, refl, ap, ◌∙◌, arith, length-append}
+use Rattle.std.proofs.Common.{◌≡◌, ℕ, ◌-◌, ◌≤◌, Bool, cond, not, eqb, List, length, take, replicate, IfOk, Ok, Err, Result, refl, ap, ◌∙◌, arith, length-append}
 use lib.ListN.{length-replicate}
 use Rattle.std.proofs.lemmas.List.{take_at}
 use Rattle.std.proofs.lemmas.Bool.Decides.{nat_tests}

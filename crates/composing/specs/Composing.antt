@@ -1,5 +1,5 @@
 -- A capture from a text: what each line adds.
-use Rattle.std.specs.Prelude.{ℕ, ◌+◌, ◌-◌, ◌^◌, Bool, cond, List, [], ◌∷◌, ◌++◌, length, take, Some, None, Option, ◌==◌, nat_le}
+use Rattle.std.specs.Prelude.{ℕ, ◌-◌, ◌^◌, Bool, cond, List, [], ◌∷◌, ◌++◌, length, take, Some, None, Option, ◌==◌, nat_le}
 use Rattle.base.specs.Fields.{be_bytes}
 use Rattle.base.specs.Limits.{max_number}
 use Rattle.sending.specs.Packing.{with_trailer}

@@ -1,5 +1,5 @@
 -- Rows with distinct numbers are a map from number to row.
-use Rattle.std.specs.Prelude.{◌≡◌, ℕ, Bool, true, cond, not, ◌&&◌, List, [], ◌∷◌, is_some, Some, None, Option, ◌==◌}
+use Rattle.std.specs.Prelude.{◌≡◌, ℕ, Bool, true, cond, not, ◌&&◌, List, [], ◌∷◌, is_some, Some, None, ◌==◌}
 use Rattle.std.specs.Option.{option_map}
 use Rattle.rows.specs.Order.{row_of, insert_by, remove_by, change_by, with_part}
 use Rattle.rows.specs.declared.row.Row.{Row}

@@ -1,5 +1,5 @@
 -- What the packer wrote into its buffer is read back.
-use Rattle.std.proofs.Common.{◌≡◌, ℕ, ◌-◌, ◌^◌, ◌<◌, Bool, not, eqb, List, [], ◌∷◌, ◌++◌, length, take, replicate, IfOk, Ok, Err, Result, sym, refl, ap, ◌∙◌, subst, arith}
+use Rattle.std.proofs.Common.{◌≡◌, ℕ, ◌-◌, ◌^◌, ◌<◌, Bool, not, eqb, List, [], ◌∷◌, length, take, replicate, IfOk, Ok, Err, Result, sym, refl, ap, ◌∙◌, subst, arith}
 use Rattle.std.proofs.lemmas.List.{take_at}
 use Rattle.base.specs.declared.refusal.Cause.TheVariants.{BufferSize}
 use Rattle.base.specs.declared.refusal.Refusal.{Refusal}

@@ -1,11 +1,11 @@
 -- Splitting gives the messages of which a body is made, and no others.
-use Rattle.std.proofs.Common.{◌≡◌, ℕ, zero, suc, ◌+◌, ◌-◌, ◌*◌, ◌<◌, ◌≤◌, Bool, true, false, cond, ◌||◌, eqb, ltb, List, [], ◌∷◌, ◌++◌, map, length, get_or, take, drop, Some, None, Ok, Err, Option, Result, sym, refl, ap, ◌∙◌, subst, append_assoc, arith, length-append, length-drop, take-add}
+use Rattle.std.proofs.Common.{◌≡◌, ℕ, zero, suc, ◌+◌, ◌*◌, ◌<◌, ◌≤◌, Bool, true, false, cond, ◌||◌, eqb, ltb, List, [], ◌∷◌, ◌++◌, map, length, get_or, take, drop, Some, None, Ok, Option, sym, refl, ap, ◌∙◌, subst, append_assoc, arith, length-append, length-drop, take-add}
 use Rattle.std.proofs.lemmas.List.{take_at, drop_at, take-append-drop, length-take-le, get_or-drop}
 use Rattle.std.proofs.lemmas.Bool.Decides.{nat_tests}
 use Rattle.base.specs.Areas.{Bytes}
 use Rattle.base.specs.Fields.{be, be_bytes}
 use Rattle.base.proofs.Fields.{be-be_bytes, be_bytes-be, length-be_bytes}
-use Rattle.wire.specs.Splitting.{lengths_of, cut, misfit, cut_unless, split_of, table, joined, Tells, Exact}
+use Rattle.wire.specs.Splitting.{lengths_of, cut, misfit, cut_unless, split_of, table, joined, Tells}
 
 -- messages, and lengths, that a body can have
 abbrev Lengths : List ℕ → Type 0

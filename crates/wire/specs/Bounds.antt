@@ -1,5 +1,5 @@
 -- What is known of a packet besides: its numbers and its body lie where they must.
-use Rattle.std.specs.Prelude.{◌≡◌, ℕ, ◌+◌, ◌-◌, ◌*◌, ◌<◌, ◌≤◌, List, length, Some, None, Ok, Err, Option, Result}
+use Rattle.std.specs.Prelude.{◌≡◌, ℕ, ◌+◌, ◌-◌, ◌<◌, ◌≤◌, List, length, Some, None, Ok, Err, Option, Result}
 use Rattle.base.specs.Limits.{max_number, max_datagram, max_messages, max_fragments, trailer_size}
 use Rattle.base.specs.declared.refusal.Refusal.{Refusal}
 use Rattle.wire.specs.declared.datagram.Fragment.{Fragment}

@@ -1,5 +1,5 @@
 -- What a split body holds.
-use Rattle.std.specs.Prelude.{◌≡◌, ℕ, List, [], ◌∷◌, map, Some, None, Ok, Err, Option, Result}
+use Rattle.std.specs.Prelude.{ℕ, List, map, Ok, Err, Result}
 use Rattle.base.specs.Fields.{be}
 use Rattle.base.specs.declared.refusal.Refusal.{Refusal}
 use Rattle.wire.specs.Splitting.{cut}

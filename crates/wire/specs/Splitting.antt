@@ -1,5 +1,5 @@
 -- The plain body of a packet: a length of four bytes for each message, then the messages one after another.
-use Rattle.std.specs.Prelude.{◌≡◌, ℕ, zero, suc, ◌+◌, ◌*◌, ◌<◌, ◌≤◌, cond, ◌||◌, List, [], ◌∷◌, ◌++◌, map, length, take, drop, Some, None, Ok, Err, Option, Result, ◌==◌, nat_lt, slice_index_or}
+use Rattle.std.specs.Prelude.{◌≡◌, ℕ, zero, suc, ◌+◌, ◌*◌, ◌<◌, ◌≤◌, cond, ◌||◌, List, [], ◌∷◌, ◌++◌, length, take, drop, Some, None, Ok, Err, Option, Result, ◌==◌, nat_lt, slice_index_or}
 use Rattle.base.specs.Fields.{be, be_bytes}
 use Rattle.base.specs.Limits.{max_message}
 use Rattle.base.specs.declared.refusal.Cause.TheVariants.{MessageLengths}

@@ -1,4 +1,4 @@
-use Rattle.std.proofs.Common.{arith, rules}
+use Rattle.std.proofs.Common.{rules}
 use Rattle.words.proofs.Hexes.{front_none, decode_more, decode_bad, decode_all}
 use Rattle.words.proofs.decode.Goals as goal
 

@@ -1,4 +1,4 @@
-use Rattle.std.proofs.Common.{◌≡◌, length, Some, None, sym, ap, arith, rules}
+use Rattle.std.proofs.Common.{◌≡◌, length, None, sym, ap, arith, rules}
 use Rattle.words.specs.Words.{fitting, hex_of, size_of, over_front}
 use Rattle.words.proofs.Hexes.{hex_even, fitting-other, fitting-long, fitting-bytes}
 use Rattle.words.proofs.hex_into.Goals as goal

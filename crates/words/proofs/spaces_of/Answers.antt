@@ -1,4 +1,4 @@
-use Rattle.std.proofs.Common.{arith, rules}
+use Rattle.std.proofs.Common.{rules}
 use Rattle.words.proofs.Places.{before-met, before_more, before-all}
 use Rattle.words.proofs.spaces_of.Goals as goal
 

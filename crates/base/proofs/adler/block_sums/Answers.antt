@@ -1,7 +1,6 @@
 use Rattle.std.proofs.Common.{arith, rules}
 use Rattle.std.proofs.lemmas.List.Sums.{fold_more}
 use Rattle.std.proofs.lemmas.List.{take_all}
-use Rattle.base.specs.Adler.{add_byte}
 use Rattle.base.proofs.AdlerSteps.{step_mod}
 use Rattle.base.proofs.adler.block_sums.Goals as goal
 

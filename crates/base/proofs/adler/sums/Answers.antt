@@ -1,6 +1,5 @@
-use Rattle.std.proofs.Common.{arith, rules}
+use Rattle.std.proofs.Common.{rules}
 use Rattle.std.proofs.lemmas.List.{take-append-drop}
-use Rattle.base.specs.Adler.{add_byte}
 use Rattle.base.proofs.AdlerSteps.{folded_append}
 use Rattle.base.proofs.adler.sums.Goals as goal
 

@@ -1,4 +1,4 @@
-use Rattle.std.proofs.Common.{◌≡◌, ◌+◌, ◌*◌, ◌%◌, ◌<◌, ◌≤◌, length, take, fold}
+use Rattle.std.proofs.Common.{◌≡◌, ◌<◌, length, fold}
 use Rattle.base.specs.Adler.{add_byte}
 use Rattle.base.proofs.adler.sums.Given as goal
 

@@ -1,4 +1,4 @@
-use Rattle.std.proofs.Common.{◌≡◌, ◌+◌, ◌-◌, ◌*◌, ◌≤◌, true, false, length, take, drop, sym, ap, ◌∙◌, subst, arith, length-drop, length-take, rules}
+use Rattle.std.proofs.Common.{◌≡◌, ◌+◌, ◌-◌, ◌*◌, ◌≤◌, true, false, length, drop, ap, ◌∙◌, subst, arith, length-drop, length-take, rules}
 use Rattle.std.specs.List.{concat}
 use Rattle.page.specs.Text.{sheet, wrote_all}
 use Rattle.wire.specs.Flags.{is_sealed}

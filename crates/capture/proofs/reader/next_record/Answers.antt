@@ -1,4 +1,4 @@
-use Rattle.std.proofs.Common.{◌-◌, length, take, drop, arith, rules}
+use Rattle.std.proofs.Common.{◌-◌, length, take, drop, rules}
 use Rattle.capture.proofs.Nexts.{judge-cut, datagram-cut}
 use Rattle.capture.proofs.reader.next_record.Goals as goal
 

@@ -1,5 +1,4 @@
-use Rattle.std.proofs.Common.{◌≡◌, ◌+◌, ◌<◌, length, ap, arith, rules}
-use Rattle.composing.specs.Data.{words_of}
+use Rattle.std.proofs.Common.{◌<◌, length, arith, rules}
 use Rattle.composing.proofs.WordLists.{count_none, count-more, words_shorter}
 use Rattle.composing.proofs.data.count_of.Goals as goal
 

@@ -1,4 +1,4 @@
-use Rattle.std.proofs.Common.{◌≡◌, length, take, sym, ap, ◌∙◌, arith, rules}
+use Rattle.std.proofs.Common.{length, take, sym, ap, ◌∙◌, arith}
 use Rattle.words.specs.Words.{fitting}
 use Rattle.composing.specs.Data.{words_of, plain_of, after_five, packing_of, prepared_of}
 use Rattle.composing.proofs.Loops.{sized-none, sized-some}

@@ -1,4 +1,4 @@
-use Rattle.std.proofs.Common.{◌+◌, ◌-◌, ◌≤◌, length, take, drop, rules}
+use Rattle.std.proofs.Common.{◌-◌, length, take, drop, rules}
 use Rattle.composing.specs.Data.{words_of, all_of}
 use Rattle.composing.proofs.WordLists.{joined-nil, words_all, word_bad, word_within, word_more, words_shorter}
 use Rattle.composing.proofs.data.put_all.Goals as goal

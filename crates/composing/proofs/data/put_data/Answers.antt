@@ -1,4 +1,4 @@
-use Rattle.std.proofs.Common.{◌≡◌, length, take, ap, ◌∙◌, rules}
+use Rattle.std.proofs.Common.{length, take, ◌∙◌, rules}
 use Rattle.composing.proofs.Prepared.{prepared_within, data_none, data_refused, data_put}
 use Rattle.composing.proofs.data.put_data.Goals as goal
 

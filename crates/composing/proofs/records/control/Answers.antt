@@ -1,4 +1,4 @@
-use Rattle.std.proofs.Common.{◌≡◌, length, sym, ap, ◌∙◌, length-append, rules}
+use Rattle.std.proofs.Common.{length-append, rules}
 use Rattle.base.specs.Adler.{adler_of}
 use Rattle.base.specs.Fields.{be_bytes}
 use Rattle.base.proofs.Fields.{length-be_bytes}

@@ -1,4 +1,4 @@
-use Rattle.std.proofs.Common.{◌≡◌, ℕ, ◌+◌, ◌-◌, ◌<◌, ◌≤◌, List, [], length, take, drop, ap, ◌∙◌, arith, length-drop, rules}
+use Rattle.std.proofs.Common.{◌+◌, ◌-◌, ◌≤◌, [], length, take, drop, ◌∙◌, arith, rules}
 use Rattle.composing.specs.Lines.{lines_of, composed_from}
 use Rattle.composing.specs.declared.stage.Stage.TheVariants.{Fresh}
 use Rattle.composing.proofs.Loops.{line_bad, line_within, line_more, line_shorter, lines_end}

@@ -1,5 +1,5 @@
-use Rattle.std.proofs.Common.{◌≡◌, ◌<◌, length, get_or, take, is_some, Some, None, sym, refl, ap, ◌∙◌, arith}
-use Rattle.std.proofs.lemmas.List.{length-take-le, length-set}
+use Rattle.std.proofs.Common.{◌≡◌, take, is_some, Some, None, sym, refl, ap, ◌∙◌, arith}
+use Rattle.std.proofs.lemmas.List.{length-take-le}
 use Rattle.rows.specs.Order.{index_of, change_by}
 use Rattle.rows.specs.Meaning.{rows_of}
 use Rattle.rows.proofs.Orders.{at, absent, ascends-change}
