@@ -7,5 +7,5 @@ pub returns : goal.returns
 returns c =
     let s = c.args.self.now in
     let is = append_leaves s.records.now s.used s.area.now s.filled (entry_of c.args.entry) c.requires.sound c.requires.room c.requires.space
-    c.message-message.result.now c.write-at.new.area c.record-of.result c.message-message.ensures c.record-of.ensures c.write-at.ensures.after in
+    c.message-message.result.now c.write_at.new.area c.record_of.result c.message-message.ensures c.record_of.ensures c.write_at.ensures.after in
     record { sound = is.0; listing = is.1 }

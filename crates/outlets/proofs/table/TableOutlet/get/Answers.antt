@@ -7,13 +7,13 @@ returns-then-i-self c =
     let s = c.args.self.now in
     sym (entry_past s.lent.records.now s.lent.used s.lent.area.now s.lent.filled c.args.i s.sound (omega arith))
 
-pub entry-by-requires : goal.entry-by-requires
-entry-by-requires c =
+pub entry_by-requires : goal.entry_by-requires
+entry_by-requires c =
     let s = c.args.self.now in
     ends_at s.lent.records.now s.lent.used s.lent.area.now s.lent.filled c.args.i s.sound _ c.if-i-self.false
 
 pub returns : goal.returns
 returns c =
     let s = c.args.self.now in
-    ap Some c.entry-by.ensures
+    ap Some c.entry_by.ensures
     ∙ sym (entry_at s.lent.records.now s.lent.used s.lent.area.now s.lent.filled c.args.i s.sound _ c.if-i-self.false)

@@ -8,20 +8,28 @@ use Rattle.partials.proofs.Keeps.{meets_refused, join_misplaced, join_placed}
 use Rattle.partials.proofs.Standing.{join_lasts, answer-short}
 use Rattle.partials.proofs.reassembly.Partials.join.Goals as goal
 
-pub returns-then-is-misplaced : goal.returns-then-is-misplaced
-returns-then-is-misplaced c =
+pub returns-then-is_misplaced : goal.returns-then-is_misplaced
+returns-then-is_misplaced c =
     let ps = partials_of c.args.self.now in
-    let o = join_misplaced c.args.joining.now ps c.args.head c.args.number c.args.piece.now (omega arith) (sym c.is-misplaced.ensures ∙ c.if-is-misplaced.true) in
-    let m = meets_refused ps c.args.joining.now _ _ o c.at-fragment.ensures in
+    let o = join_misplaced c.args.joining.now ps c.args.head c.args.number c.args.piece.now (omega arith) (sym c.is_misplaced.ensures ∙ c.if-is_misplaced.true) in
+    let m = meets_refused ps c.args.joining.now _ _ o c.at_fragment.ensures in
     record { answer = m.answer; after = m.after; buffer = m.buffer; short = tt }
 
-pub invariant-of-self : goal.invariant-of-self
-invariant-of-self c =
+pub invariant_of-self : goal.invariant_of-self
+invariant_of-self c =
     let p = c.args.self.now in
     let m = c.join.ensures.meets in
     let s = c.join.ensures.sound in
     let l = join_lasts (partials_of p) c.args.head _ c.args.piece.now p.apart p.each in
-    (s.sized, (s.four, (s.few, (s.fitting, (s.own, (ap distinct m.after ∙ l.0, (ap all_unfinished m.after ∙ l.1, tt)))))))
+    record {
+      sized = s.sized;
+      four = s.four;
+      few = s.few;
+      fitting = s.fitting;
+      own = s.own;
+      apart = ap distinct m.after ∙ l.0;
+      each = ap all_unfinished m.after ∙ l.1;
+    }
 
 pub returns : goal.returns
 returns c =
@@ -29,7 +37,7 @@ returns c =
     let m = c.join.ensures.meets in
     let size : length c.args.joining.now ≡ body_room = omega arith in
     let o = sym (join_placed c.args.joining.now ps c.args.head c.args.number c.args.piece.now size c.from.result c.from.ensures
-    (sym c.is-misplaced.ensures ∙ c.if-is-misplaced.false)) in
+    (sym c.is_misplaced.ensures ∙ c.if-is_misplaced.false)) in
     let answer = m.answer ∙ ap answer_of o in
     record {
       answer = answer;

@@ -19,8 +19,8 @@ returns-in-Some c =
     let found = found_at t.memory.now t.rows t.len c.args.sender c.args.first c.in-Some.i (used-within t c.requires.sound) (sym c.in-Some.ensures) in
     record { after = c.remove.ensures.after ∙ sym found.out; sound = c.remove.ensures.sound }
 
-pub returns-in-default : goal.returns-in-default
-returns-in-default c =
+pub returns-in_default : goal.returns-in_default
+returns-in_default c =
     let t = c.args.self.now in
-    let missed = missed_at t.memory.now t.rows t.len c.args.sender c.args.first (sym c.in-default.ensures) in
+    let missed = missed_at t.memory.now t.rows t.len c.args.sender c.args.first (sym c.in_default.ensures) in
     record { after = sym missed.1; sound = c.requires.sound }

@@ -10,16 +10,16 @@ returns c =
     let at = c.args.at in
     let piece = c.args.piece.now in
     let out = c.args.out.now in
-    let out₁ = c.write-at.new.area in
-    let out₂ = c.write-at-2.new.area in
+    let out₁ = c.write_at.new.area in
+    let out₂ = c.write_at-2.new.area in
     let before = take at front in
     let behind = take (length front - at) (drop at front) in
     let behind-is : behind ≡ drop at front = take_rest front at in
     let short : length before ≡ at = length-take-le at front c.requires.inside in
     let long : length behind ≡ length front - at = ap length behind-is ∙ length-drop at front in
-    let e₁ = written out 0 before (omega (arith, c.requires.room)) out₁ c.write-at.ensures.after in
+    let e₁ = written out 0 before (omega (arith, c.requires.room)) out₁ c.write_at.ensures.after in
     let n₁ : length out₁ ≡ length out = ap length e₁ ∙ length-written out 0 before (omega (arith, c.requires.room)) in
-    let e₂ = written out₁ at piece (omega (arith, c.requires.room, c.requires.inside)) out₂ c.write-at-2.ensures.after in
+    let e₂ = written out₁ at piece (omega (arith, c.requires.room, c.requires.inside)) out₂ c.write_at-2.ensures.after in
     let n₂ : length out₂ ≡ length out₁ = ap length e₂ ∙ length-written out₁ at piece (omega (arith, c.requires.room, c.requires.inside)) in
-    let e₃ = written out₂ (at + length piece) behind (omega (arith, c.requires.room, c.requires.inside)) c.write-at-3.new.area c.write-at-3.ensures.after in
-    splice_writes out out₁ out₂ c.write-at-3.new.area front piece before behind at c.requires.inside c.requires.room refl behind-is e₁ e₂ e₃
+    let e₃ = written out₂ (at + length piece) behind (omega (arith, c.requires.room, c.requires.inside)) c.write_at-3.new.area c.write_at-3.ensures.after in
+    splice_writes out out₁ out₂ c.write_at-3.new.area front piece before behind at c.requires.inside c.requires.room refl behind-is e₁ e₂ e₃
