@@ -3,12 +3,9 @@ use Rattle.std.proofs.Common.{◌≡◌, ℕ, Bool, true, false, cond, not, eqb,
 use Rattle.std.specs.Option.{option_map}
 use Rattle.std.proofs.lemmas.Bool.{eqb-true, eqb-false, ne_eqb, and_parts, and_from, cond-false}
 use Rattle.rows.specs.Order.{row_of, insert_by, remove_by, change_by, with_part}
+use Rattle.rows.proofs.Rises.{none_parts}
 use Rattle.rows.specs.Mapping.{distinct, MeansMap}
 use Rattle.rows.specs.declared.row.Row.{Row}
-
-none_parts : {X : Type 0} (b : Bool) (x : X) (o : Option X) → cond b (Some x) o ≡ None → (b ≡ false) × (o ≡ None)
-none_parts true x o e = absurd (let z : ◌≡◌ {A = ℕ} 0 1 = cc in omega arith)
-none_parts false x o e = (refl, e)
 
 not_some : {X : Type 0} (o : Option X) → not (is_some o) ≡ true → o ≡ None
 not_some None e = refl
@@ -32,7 +29,7 @@ apart : (m n k : ℕ) → eqb m n ≡ false → eqb m k ≡ true → eqb n k ≡
 apart m n k e a b = eqb-false m n e (eqb-true m k a ∙ sym (eqb-true n k b))
 
 module _ {P : Type 0} where
-  found_inserted : (k : ℕ) (r : Row P) (xs : List (Row P)) → row_of r.number xs ≡ None → row_of k (insert_by r xs) ≡ cond (eqb r.number k) (Some r) (row_of k xs)
+  pub found_inserted : (k : ℕ) (r : Row P) (xs : List (Row P)) → row_of r.number xs ≡ None → row_of k (insert_by r xs) ≡ cond (eqb r.number k) (Some r) (row_of k xs)
   found_inserted k r [] e = refl
   found_inserted k r (x ∷ xs) e =
       let h = none_parts (eqb x.number r.number) x (row_of r.number xs) e in

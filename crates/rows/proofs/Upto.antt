@@ -10,7 +10,7 @@ use Rattle.rows.specs.declared.row.Side.{Side}
 use Rattle.rows.specs.declared.row.Side.TheVariants.{Before}
 use Rattle.rows.proofs.Orders.{place_is, at, found, missed}
 
-take-of_set : {X : Type 0} (n : ℕ) (xs : List X) (i : ℕ) (y : X) → take n (set xs i y) ≡ set (take n xs) i y
+pub take-of_set : {X : Type 0} (n : ℕ) (xs : List X) (i : ℕ) (y : X) → take n (set xs i y) ≡ set (take n xs) i y
 take-of_set zero xs i y = refl
 take-of_set (suc n) [] i y = refl
 take-of_set (suc n) (x ∷ xs) zero y = refl

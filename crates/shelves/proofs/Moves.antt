@@ -8,7 +8,7 @@ use Rattle.std.proofs.lemmas.List.Sorted.{IsPermutation-sym, IsPermutation-trans
 use Rattle.shelves.specs.Sifting.{number_at, heaped, Lower, Near}
 use Rattle.rows.specs.declared.row.Row.{Row}
 use Rattle.shelves.proofs.HeapOrders.{Exchanged, number-at, push_lower, near_from}
-use Rattle.rows.proofs.Shifts.{closed-spares}
+use Rattle.rows.proofs.Shifts.{closed_spares}
 use Rattle.rows.proofs.Upto.{take-of_set}
 
 -- The first n of the rows ws are now ys.
@@ -87,5 +87,5 @@ module _ {P : Type 0} where
           shuffled = λ ys moved. IsPermutation-trans _ _ _
               (IsPermutation-trans _ _ _ (subst (λ l. IsPermutation (take len xs) l) pulled_last exchanged_upto) (IsPermutation-to_front (take k zs) (get_or xs at d)))
               (IsPermutation-cons (get_or xs at d) (take k zs) ys moved);
-          spares = closed-spares xs zs len at lt fits same p.1 (λ m e a b. p.2 m e (λ w. omega arith) (λ w. omega arith)) d;
+          spares = closed_spares xs zs len at lt fits same p.1 (λ m e a b. p.2 m e (λ w. omega arith) (λ w. omega arith)) d;
         }

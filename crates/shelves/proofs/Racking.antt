@@ -6,7 +6,7 @@ use Rattle.base.specs.Areas.{written_at}
 use Rattle.base.specs.Limits.{body_room, max_places}
 use Rattle.rows.specs.Order.{rises, row_of, insert_by, remove_by}
 use Rattle.rows.specs.declared.row.Row.{Row}
-use Rattle.rows.proofs.Orders.{rises-insert, rises-remove}
+use Rattle.rows.proofs.Rises.{rises-insert, rises-remove}
 use Rattle.shelves.specs.Racks.{Stock, Racked, tidy, free_place}
 use Rattle.shelves.specs.declared.held.Held.{Held}
 use Rattle.base.proofs.Areas.{length-written}

@@ -9,10 +9,11 @@ use Rattle.std.proofs.lemmas.List.Sorted.{IsPermutation-refl, IsPermutation-sym,
 use Rattle.std.proofs.ByRecursion.{has_shuffled}
 use Rattle.std.proofs.lemmas.List.Sums.{sum_by-cons}
 use Rattle.std.proofs.lemmas.Bool.{cases_eq, ltb-true, lt-ltb, leb-true, eqb-true, eqb-false, eq-eqb, ne_eqb, and_parts, and_from, cond-true, cond-false}
-use Rattle.rows.specs.Order.{all_from, ascends, allAbove, rises, index_of, row_of, remove_by, insert_by}
+use Rattle.rows.specs.Order.{all_from, ascends, all_above, rises, index_of, row_of, remove_by, insert_by}
 use Rattle.shelves.specs.Sifting.{sort_by}
 use Rattle.rows.specs.declared.row.Row.{Row}
-use Rattle.rows.proofs.Orders.{none_parts, none_of, ascends-insert, at, absent}
+use Rattle.rows.proofs.Orders.{ascends-insert, at, absent}
+use Rattle.rows.proofs.Rises.{none_parts, none_of}
 use Rattle.rows.proofs.Mappings.{found_inserted}
 
 -- What stands in a list stands at its head or in its rest.
@@ -77,23 +78,23 @@ module _ {P : Type 0} where
       sum_by-cons (one k) x xs ∙ omega (arith, one-other k x (eqb-false x.number k h.0), count_none k xs h.1)
 
   -- Numbers rise where none is there twice.
-  above-count : (a k : ℕ) (xs : List (Row P)) → k ≤ a → allAbove a xs ≡ true → count k xs ≡ 0
+  above-count : (a k : ℕ) (xs : List (Row P)) → k ≤ a → all_above a xs ≡ true → count k xs ≡ 0
   above-count a k [] le e = refl
   above-count a k (x ∷ xs) le e =
-      let h = and_parts (ltb a x.number) (allAbove a xs) e in
+      let h = and_parts (ltb a x.number) (all_above a xs) e in
       let l = ltb-true a x.number h.0 in
       sum_by-cons (one k) x xs ∙ omega (arith, one-other k x (λ q. omega arith), above-count a k xs le h.1)
 
   rises_count : (xs : List (Row P)) → rises xs ≡ true → (k : ℕ) → count k xs ≤ 1
   rises_count [] s k = omega arith
   rises_count (x ∷ xs) s k =
-      let h = and_parts (allAbove x.number xs) (rises xs) s in
+      let h = and_parts (all_above x.number xs) (rises xs) s in
       let n = sum_by-cons (one k) x xs in
       ⊎_elim (λ q. omega (arith, one_same k x q, above-count x.number k xs (omega arith) h.0))
       (λ q. omega (arith, one-other k x q, rises_count xs h.1 k))
       (cases_eq x.number k)
 
-  above_from : (a : ℕ) (xs : List (Row P)) → all_from a xs ≡ true → count a xs ≡ 0 → allAbove a xs ≡ true
+  above_from : (a : ℕ) (xs : List (Row P)) → all_from a xs ≡ true → count a xs ≡ 0 → all_above a xs ≡ true
   above_from a [] e n = refl
   above_from a (x ∷ xs) e n =
       let h = and_parts (leb a x.number) (all_from a xs) e in
@@ -118,19 +119,19 @@ module _ {P : Type 0} where
   sort_once xs s k = omega (arith, sort_count k xs, rises_count (sort_by xs) s k)
 
   -- Two lists that rise and have the same rows are the same.
-  above-has : (a : ℕ) (xs : List (Row P)) (z : Row P) → allAbove a xs ≡ true → Has xs z → a < z.number
+  above-has : (a : ℕ) (xs : List (Row P)) (z : Row P) → all_above a xs ≡ true → Has xs z → a < z.number
   above-has a [] z e h = absurd (omega (arith, h.1))
   above-has a (x ∷ xs) z e h =
-      let p = and_parts (ltb a x.number) (allAbove a xs) e in
+      let p = and_parts (ltb a x.number) (all_above a xs) e in
       ⊎_elim (λ q. omega (arith, ltb-true a x.number p.0, ap (λ (r : Row P). r.number) q)) (λ m. above-has a xs z p.1 m) (has_cases x xs z h)
 
-  same_head : (x y : Row P) (xs ys : List (Row P)) → allAbove x.number xs ≡ true → allAbove y.number ys ≡ true → Has (y ∷ ys) x → Has (x ∷ xs) y → x ≡ y
+  same_head : (x y : Row P) (xs ys : List (Row P)) → all_above x.number xs ≡ true → all_above y.number ys ≡ true → Has (y ∷ ys) x → Has (x ∷ xs) y → x ≡ y
   same_head x y xs ys a b p q =
       ⊎_elim (λ e. sym e)
       (λ m. ⊎_elim (λ e. e) (λ n. absurd (omega (arith, above-has y.number ys x b m, above-has x.number xs y a n))) (has_cases x xs y q))
       (has_cases y ys x p)
 
-  same_rest : (x y : Row P) (xs ys : List (Row P)) (z : Row P) → x ≡ y → allAbove x.number xs ≡ true → Has xs z → Has (y ∷ ys) z → Has ys z
+  same_rest : (x y : Row P) (xs ys : List (Row P)) (z : Row P) → x ≡ y → all_above x.number xs ≡ true → Has xs z → Has (y ∷ ys) z → Has ys z
   same_rest x y xs ys z e a m h =
       ⊎_elim (λ q. absurd (omega (arith, above-has x.number xs z a m, ap (λ (r : Row P). r.number) (e ∙ q)))) (λ n. n) (has_cases y ys z h)
 
@@ -139,8 +140,8 @@ module _ {P : Type 0} where
   same_rows [] (y ∷ ys) s t f g = absurd (omega (arith, (g y (has_head y ys)).1))
   same_rows (x ∷ xs) [] s t f g = absurd (omega (arith, (f x (has_head x xs)).1))
   same_rows (x ∷ xs) (y ∷ ys) s t f g =
-      let h = and_parts (allAbove x.number xs) (rises xs) s in
-      let k = and_parts (allAbove y.number ys) (rises ys) t in
+      let h = and_parts (all_above x.number xs) (rises xs) s in
+      let k = and_parts (all_above y.number ys) (rises ys) t in
       let e = same_head x y xs ys h.0 k.0 (f x (has_head x xs)) (g y (has_head y ys)) in
       ap (λ w. w ∷ xs) e
       ∙ ap (λ l. y ∷ l) (same_rows xs ys h.1 k.1
@@ -194,7 +195,7 @@ module _ {P : Type 0} where
   head-least : (x : Row P) (xs : List (Row P)) → rises xs ≡ true → Has xs x → ((z : Row P) → Has xs z → x.number ≤ z.number) → slice_get xs 0 ≡ Some x
   head-least x [] s h least = absurd (omega (arith, h.1))
   head-least x (y ∷ ys) s h least =
-      let p = and_parts (allAbove y.number ys) (rises ys) s in
+      let p = and_parts (all_above y.number ys) (rises ys) s in
       ⊎_elim (λ e. ap Some e) (λ m. absurd (omega (arith, above-has y.number ys x p.0 m, least y (has_head y ys)))) (has_cases y ys x h)
 
   pub sort_first : (x : Row P) (xs : List (Row P)) → rises (sort_by xs) ≡ true → Has xs x → ((z : Row P) → Has xs z → x.number ≤ z.number) → slice_get (sort_by xs) 0 ≡ Some x

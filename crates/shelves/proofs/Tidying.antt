@@ -6,7 +6,7 @@ use Rattle.std.proofs.lemmas.Bool.{cases_Bool, cases_eq, eqb-true, eq-eqb, ne_eq
 use Rattle.base.specs.Limits.{body_room}
 use Rattle.rows.specs.Order.{row_of, insert_by, remove_by}
 use Rattle.rows.specs.declared.row.Row.{Row}
-use Rattle.rows.proofs.Orders.{remove_IsAbsent}
+use Rattle.rows.proofs.Rises.{remove_absent}
 use Rattle.shelves.specs.Racks.{sum_by, has_place, misfit, tidy, free_place}
 use Rattle.shelves.specs.declared.held.Held.{Held}
 
@@ -97,7 +97,7 @@ tidy-put n rows (s ∷ tl) r some e short t =
 -- a row taken out of use becomes the first spare one
 pub tidy-out : (n k : ℕ) (rows spares : List (Row Held)) (o : Option (Row Held)) → o ≡ row_of k rows → tidy n (rows ++ spares) ≡ true
     → tidy n (remove_by k rows ++ (option_to_list o ++ spares)) ≡ true
-tidy-out n k rows spares None e t = ap (λ l. tidy n (l ++ spares)) (remove_IsAbsent k rows (sym e)) ∙ t
+tidy-out n k rows spares None e t = ap (λ l. tidy n (l ++ spares)) (remove_absent k rows (sym e)) ∙ t
 tidy-out n k rows spares (Some r) e t =
     let was = sums_of n (rows ++ spares) t in
     let a : (f : Row Held → ℕ) → sum_by f (remove_by k rows ++ r ∷ spares) ≡ sum_by f (rows ++ spares) =

@@ -5,7 +5,7 @@ use Rattle.std.proofs.lemmas.List.{length-take}
 use Rattle.std.proofs.lemmas.Bool.{le-leb, and_from}
 use Rattle.base.specs.Limits.{body_room}
 use Rattle.parts.specs.Holdings.{Sound, bodies_fit}
-use Rattle.rows.specs.Order.{allAbove, rises}
+use Rattle.rows.specs.Order.{all_above, rises}
 use Rattle.rows.specs.declared.row.Row.{Row}
 use Rattle.shelves.specs.Racks.{bytes_at, pair_for, holding_of, Stock, Racked}
 use Rattle.shelves.specs.declared.held.Held.{Held}
@@ -17,14 +17,14 @@ module _ (bytes : List ℕ) where
       and_from _ _ (le-leb (length (take r.part.size (bytes_at bytes r.part.place))) body_room
       (omega (arith, length-take r.part.size (bytes_at bytes r.part.place), length-take body_room (drop (body_room * r.part.place) bytes)))) (pairs-fit rows)
 
-  pairs-above : (k : ℕ) (rows : List (Row Held)) → allAbove k (map (pair_for bytes) rows) ≡ allAbove k rows
+  pairs-above : (k : ℕ) (rows : List (Row Held)) → all_above k (map (pair_for bytes) rows) ≡ all_above k rows
   pairs-above k [] = refl
   pairs-above k (r ∷ rows) = ap (λ b. nat_lt k r.number && b) (pairs-above k rows)
 
   pairs-rise : (rows : List (Row Held)) → rises (map (pair_for bytes) rows) ≡ rises rows
   pairs-rise [] = refl
   pairs-rise (r ∷ rows) =
-      ap (λ b. b && rises (map (pair_for bytes) rows)) (pairs-above r.number rows) ∙ ap (λ b. allAbove r.number rows && b) (pairs-rise rows)
+      ap (λ b. b && rises (map (pair_for bytes) rows)) (pairs-above r.number rows) ∙ ap (λ b. all_above r.number rows && b) (pairs-rise rows)
 
   pub length_pairs : (rows : List (Row Held)) → length (map (pair_for bytes) rows) ≡ length rows
   length_pairs [] = refl

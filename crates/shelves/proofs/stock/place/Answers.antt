@@ -2,7 +2,7 @@ use Rattle.std.proofs.Common.{◌+◌, ◌*◌, ◌≤◌, length, sym, ap, ◌�
 use Rattle.base.specs.Areas.{written_at}
 use Rattle.base.specs.Limits.{body_room}
 use Rattle.rows.specs.Order.{row_of}
-use Rattle.rows.proofs.Orders.{none_of}
+use Rattle.rows.proofs.Rises.{none_of}
 use Rattle.shelves.specs.Racks.{free_place}
 use Rattle.shelves.proofs.Shelving.{some_first, put_inside, put_answer, put_after}
 use Rattle.shelves.proofs.stock.place.Goals as goal

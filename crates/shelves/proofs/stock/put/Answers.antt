@@ -4,26 +4,26 @@ use Rattle.shelves.specs.Racks.{holding_of}
 use Rattle.shelves.proofs.Shelving.{hold_present, hold_full, hold_refused, none_first}
 use Rattle.shelves.proofs.stock.put.Goals as goal
 
-pub returns-then-is-some : goal.returns-then-is-some
-returns-then-is-some g c =
+pub returns-then-is_some : goal.returns-then-is_some
+returns-then-is_some g c =
     let s = g.T.Rack.stock c.args.rack.now in
-    let is = hold_present s c.args.first c.args.count c.args.body.now c.if-body-gt-BODY-ROOM.false
-    (ap is_some (sym c.find.ensures) ∙ sym c.is-some.ensures ∙ c.if-is-some.true) in
-    record { answer = ap Err c.refusal-then-is-some.ensures ∙ sym is; after = hold_refused (holding_of s) (pair_of c.args.first c.args.count c.args.body.now) _ is }
+    let is = hold_present s c.args.first c.args.count c.args.body.now c.if-body-gt-BODY_ROOM.false
+    (ap is_some (sym c.find.ensures) ∙ sym c.is_some.ensures ∙ c.if-is_some.true) in
+    record { answer = ap Err c.refusal-then-is_some.ensures ∙ sym is; after = hold_refused (holding_of s) (pair_of c.args.first c.args.count c.args.body.now) _ is }
 
-pub returns-in-default : goal.returns-in-default
-returns-in-default g c =
+pub returns-in_default : goal.returns-in_default
+returns-in_default g c =
     let s = g.T.Rack.stock c.args.rack.now in
-    let is = hold_full s c.args.first c.args.count c.args.body.now c.if-body-gt-BODY-ROOM.false
-    (ap is_some (sym c.find.ensures) ∙ sym c.is-some.ensures ∙ c.if-is-some.false)
-    (omega (arith, none_first s.spares c.in-default.ensures, (g.T.Rack.racked c.args.rack.now).whole)) in
-    record { answer = ap Err c.refusal-in-default.ensures ∙ sym is; after = hold_refused (holding_of s) (pair_of c.args.first c.args.count c.args.body.now) _ is }
+    let is = hold_full s c.args.first c.args.count c.args.body.now c.if-body-gt-BODY_ROOM.false
+    (ap is_some (sym c.find.ensures) ∙ sym c.is_some.ensures ∙ c.if-is_some.false)
+    (omega (arith, none_first s.spares c.in_default.ensures, (g.T.Rack.racked c.args.rack.now).whole)) in
+    record { answer = ap Err c.refusal-in_default.ensures ∙ sym is; after = hold_refused (holding_of s) (pair_of c.args.first c.args.count c.args.body.now) _ is }
 
 pub place-requires : goal.place-requires
 place-requires g c =
     record {
-      short = c.if-body-gt-BODY-ROOM.false;
-      absent = ap is_some (sym c.find.ensures) ∙ sym c.is-some.ensures ∙ c.if-is-some.false;
+      short = c.if-body-gt-BODY_ROOM.false;
+      absent = ap is_some (sym c.find.ensures) ∙ sym c.is_some.ensures ∙ c.if-is_some.false;
       next = c.in-Some.ensures;
     }
 

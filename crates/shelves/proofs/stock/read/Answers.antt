@@ -6,11 +6,11 @@ use Rattle.parts.specs.Holdings.{sizes_of, copied}
 use Rattle.shelves.proofs.Shelving.{found_fits, found_sizes, row_found, row_absent}
 use Rattle.shelves.proofs.stock.read.Goals as goal
 
-pub returns-in-default : goal.returns-in-default
-returns-in-default g c =
+pub returns-in_default : goal.returns-in_default
+returns-in_default g c =
     let s = g.T.Rack.stock c.args.rack.now in
     let whole : eqb (length c.args.into.now) body_room ≡ true = eq-eqb _ _ (omega arith) in
-    let none = row_absent s c.args.first c.in-default.ensures in
+    let none = row_absent s c.args.first c.in_default.ensures in
     record {
       answer = sym (cond-true _ _ _ whole ∙ ap (λ o. Ok (option_map sizes_of o)) none);
       after = sym (cond-true _ _ _ whole ∙ ap (λ o. copied o c.args.into.now) none);

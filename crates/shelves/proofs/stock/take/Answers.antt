@@ -6,10 +6,10 @@ use Rattle.shelves.specs.Racks.{holding_of}
 use Rattle.shelves.proofs.Shelving.{found_sizes, row_absent, taken}
 use Rattle.shelves.proofs.stock.take.Goals as goal
 
-pub returns-in-default : goal.returns-in-default
-returns-in-default g c =
+pub returns-in_default : goal.returns-in_default
+returns-in_default g c =
     let s = g.T.Rack.stock c.args.rack.now in
-    let e = c.in-default.ensures in
+    let e = c.in_default.ensures in
     record {
       answer = sym (ap (option_map sizes_of) (row_absent s c.args.first e.answer));
       after = taken s (g.T.Rack.stock c.remove.new.self) c.args.first e.rows e.bytes e.room;

@@ -3,12 +3,12 @@ use Rattle.std.proofs.lemmas.List.{length-drop}
 use Rattle.shelves.proofs.Sorts.{sort_put}
 use Rattle.shelves.proofs.heaping.Heap.insert.Goals as goal
 
-pub push-row-requires : goal.push-row-requires
-push-row-requires g c = (omega (arith, c.requires.free, length-drop c.args.self.now.len c.args.self.now.rows.now), c.requires.sound.ordered)
+pub push_row-requires : goal.push_row-requires
+push_row-requires g c = (omega (arith, c.requires.free, length-drop c.args.self.now.len c.args.self.now.rows.now), c.requires.sound.ordered)
 
 pub returns : goal.returns
 returns g c =
-    let e = c.push-row.ensures in
+    let e = c.push_row.ensures in
     let put = sort_put c.args.row _ _ c.requires.sound.apart (ap is_some c.requires.absent) e.shuffled in
     record {
       rows = put.1;

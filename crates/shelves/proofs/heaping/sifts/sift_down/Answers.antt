@@ -8,8 +8,8 @@ pub returns-then-rows-at : goal.returns-then-rows-at
 returns-then-rows-at g c =
     let xs = c.down.rows in
     let at = c.down.at in
-    let below = c.smaller-below-below.result in
-    let least = c.smaller-below-below.ensures.least in
+    let below = c.smaller_below-below.result in
+    let least = c.smaller_below-below.ensures.least in
     record {
       shuffled = c.down.invariant.0;
       heap = higher_done (number_at xs) (length xs) at below c.down.invariant.1 least
@@ -22,8 +22,8 @@ down-preserved g c =
     let zs = c.swap.new.self in
     let at = c.down.at in
     let inside : at < length xs = omega arith in
-    let below = c.smaller-below-below.result in
-    let least = c.smaller-below-below.ensures.least in
+    let below = c.smaller_below-below.result in
+    let least = c.smaller_below-below.ensures.least in
     let d = c.index-rows-at.result in (
       IsPermutation-trans c.args.rows.now xs zs c.down.invariant.0 c.swap.ensures.permutation,
       rw c.swap.ensures.len (higher_step (number_at xs) (number_at zs) (length xs) at below least
