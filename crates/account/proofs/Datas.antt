@@ -1,19 +1,17 @@
 -- What data comes to, by what joining it came to.
-use Rattle.std.proofs.Common.{◌≡◌, ℕ, ◌-◌, ◌<◌, ◌≤◌, Bool, true, false, cond, List, length, take, drop, is_ok, Some, None, Ok, Err, Option, Result, sym, refl, ap, ◌∙◌, arith}
+use Rattle.std.proofs.Common.{◌≡◌, ℕ, ◌-◌, ◌<◌, ◌≤◌, Bool, true, false, cond, List, length, take, drop, is_ok, Some, None, Ok, Err, Option, sym, refl, ap, ◌∙◌, arith}
 use Rattle.std.proofs.lemmas.List.{length-take, length-drop}
 use Rattle.std.proofs.lemmas.Bool.{lt-ltb, le-ltb, cond-true, cond-false}
 use Rattle.base.specs.Limits.{body_room}
 use Rattle.base.specs.declared.refusal.Refusal.{Refusal}
 use Rattle.partials.specs.Joining.{Partial, Outcome, refused, again, kept, whole, answer_of, after_of, bytes_of}
-use Rattle.partials.specs.declared.head.Joined.{Joined}
 use Rattle.partials.specs.declared.head.Joined.TheVariants.{Again, Kept, Whole}
 use Rattle.wire.specs.Bodies.{coded_in, coded_of}
 use Rattle.wire.specs.declared.datagram.Fragment.{Fragment}
 use Rattle.wire.specs.declared.datagram.Packet.{Packet}
-use Rattle.account.specs.Arriving.{Coder, with_partials, whole_of, comes_to, ended_by, ends_if_ok, joined_then, data_of}
+use Rattle.account.specs.Arriving.{Coder, with_partials, comes_to, ended_by, ends_if_ok, joined_then, data_of}
 use Rattle.account.specs.Joined.{CodedIn}
-use Rattle.account.specs.States.{State, Done, state_of, done}
-use Rattle.account.specs.declared.answer.Answer.{Answer}
+use Rattle.account.specs.States.{State, Done, done}
 use Rattle.account.specs.declared.answer.Answer.TheVariants as answers
 
 -- the outcome, from the answer

@@ -1,15 +1,15 @@
 -- What the joining layer did.
-use Rattle.std.proofs.Common.{◌≡◌, ℕ, ◌+◌, ◌-◌, ◌≤◌, true, leb, List, length, take, drop, IfOk, Some, None, Ok, Err, Option, Result, sym, refl, ap, ◌∙◌, subst, arith}
+use Rattle.std.proofs.Common.{◌≡◌, ℕ, ◌+◌, ◌-◌, ◌≤◌, List, length, take, drop, IfOk, Some, None, Ok, Result, sym, refl, ap, ◌∙◌, subst, arith}
 use Rattle.std.proofs.lemmas.List.{length-take-le, length-drop, take_at}
 use Rattle.std.proofs.lemmas.Bool.{le-leb, eq-eqb, and_from, cond-true}
 use Rattle.base.specs.Areas.{written_at}
 use Rattle.base.specs.Limits.{body_room}
 use Rattle.base.specs.declared.refusal.Refusal.{Refusal}
 use Rattle.base.proofs.Areas.{length-written}
-use Rattle.partials.specs.Joining.{Partial, Outcome, refused, again, kept, whole, join_of, join_in, answer_of, size_of, after_of, bytes_of}
+use Rattle.partials.specs.Joining.{Partial, Outcome, refused, again, kept, whole, join_in, answer_of, size_of, after_of, bytes_of}
 use Rattle.partials.specs.declared.head.Joined.{Joined}
 use Rattle.partials.specs.declared.head.Joined.TheVariants.{Whole}
-use Rattle.wire.specs.Bodies.{coded_in, coded_of}
+use Rattle.wire.specs.Bodies.{coded_in}
 use Rattle.wire.specs.Bounds.{PacketBounds}
 use Rattle.wire.specs.declared.datagram.Fragment.{Fragment}
 use Rattle.wire.specs.declared.datagram.Packet.{Packet}

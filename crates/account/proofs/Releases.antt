@@ -1,5 +1,5 @@
 -- What a release comes to, where the lowest packet is the next expected.
-use Rattle.std.proofs.Common.{◌≡◌, ℕ, ◌+◌, ◌-◌, ◌*◌, ◌<◌, ◌≤◌, true, false, List, length, is_ok, Some, Ok, Err, Result, sym, refl, ap, ◌∙◌, arith, length-append}
+use Rattle.std.proofs.Common.{◌≡◌, ℕ, ◌+◌, ◌*◌, ◌<◌, ◌≤◌, true, false, List, length, is_ok, Some, Err, Result, sym, ap, ◌∙◌, arith, length-append}
 use Rattle.std.specs.List.{slice_get}
 use Rattle.std.proofs.lemmas.Bool.{le-ltb, lt-ltb, eq-eqb, cond-true, cond-false}
 use Rattle.base.specs.Limits.{max_number}
@@ -8,10 +8,8 @@ use Rattle.base.specs.declared.refusal.Refusal.{Refusal}
 use Rattle.parts.specs.Holdings.{pair_of}
 use Rattle.wire.specs.Splitting.{split_of, joined, table, Tells}
 use Rattle.wire.proofs.Exactly.{length-table}
-use Rattle.account.specs.Delivering.{delivered_of}
 use Rattle.account.specs.Releasing.{without, taken_if, release_split, release_next, release_lowest}
 use Rattle.account.specs.States.{State, Done, done}
-use Rattle.account.specs.declared.answer.Answer.{Answer}
 
 -- the bytes of all messages, by those of the body
 pub size_of : (count : ℕ) (body : List ℕ) (messages : List (List ℕ)) → Tells count body messages → length body ≡ 4 * count + length (joined messages)

@@ -2,7 +2,7 @@
 use Rattle.std.specs.Prelude.{ℕ, ◌+◌, ◌-◌, max, Bool, false, cond, not, ◌&&◌, ◌||◌, List, length, take, drop, is_some, is_ok, Some, None, Ok, Err, Option, Result, ◌==◌, nat_le, nat_lt}
 use Rattle.base.specs.declared.refusal.Cause.TheVariants.{BufferSize, CoderNotReady, PastEnd, ShelfFull}
 use Rattle.base.specs.declared.refusal.Refusal.{Refusal}
-use Rattle.parts.specs.Holdings.{Holding, pair_of}
+use Rattle.parts.specs.Holdings.{pair_of}
 use Rattle.partials.specs.Joining.{Partial, Outcome, refused, again, kept, whole, join_of}
 use Rattle.partials.specs.Joining.{without as withoutPartial}
 use Rattle.partials.specs.declared.head.PartialHead.{PartialHead}

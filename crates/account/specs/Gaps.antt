@@ -1,5 +1,5 @@
 -- Gaps: rows by their last numbers, and for how many there is room.
-use Rattle.std.specs.Prelude.{ℕ, cond, ◌&&◌, List, length, Ok, Err, Result, nat_le}
+use Rattle.std.specs.Prelude.{ℕ, cond, ◌&&◌, List, Ok, Err, Result, nat_le}
 use Rattle.base.specs.Limits.{max_gaps}
 use Rattle.base.specs.declared.refusal.Cause.TheVariants.{PartSize}
 use Rattle.base.specs.declared.refusal.Refusal.{Refusal}

@@ -1,7 +1,6 @@
 -- Opening an account over empty parts.
-use Rattle.std.specs.Prelude.{ℕ, ◌-◌, Bool, cond, not, ◌&&◌, ◌||◌, List, [], ◌∷◌, length, None, Ok, Err, Result, ◌==◌, nat_lt}
+use Rattle.std.specs.Prelude.{ℕ, ◌-◌, Bool, cond, not, ◌&&◌, ◌||◌, List, length, None, Ok, Err, Result, ◌==◌, nat_lt}
 use Rattle.base.specs.Limits.{max_number}
-use Rattle.base.specs.Refusals.{first_of}
 use Rattle.base.specs.declared.refusal.Cause.TheVariants.{Opening}
 use Rattle.base.specs.declared.refusal.Refusal.{Refusal}
 use Rattle.parts.specs.Holdings.{Holding}

@@ -1,6 +1,6 @@
 // What a call answers where it is not refused.
 ghost use Rattle.std.specs.Prelude.{◌≡◌};
-ghost use Rattle.account.specs.Answers.{answerNumber};
+ghost use Rattle.account.specs.Answers.{answer_number};
 
 /// What came of a call.
 #[derive(Clone, Copy)]
@@ -30,7 +30,7 @@ pub enum Answer {
 impl Answer {
     /// The number under which this answer is told.
     pub fn number(self) -> u8
-        ensures { result ≡ answerNumber self }
+        ensures { result ≡ answer_number self }
     {
         match self {
             Answer::Done => 0,

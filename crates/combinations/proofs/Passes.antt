@@ -1,15 +1,15 @@
 -- The packet that is passed on, where it was read.
-use Rattle.std.proofs.Common.{◌≡◌, ℕ, ◌-◌, true, false, eqb, List, length, take, replicate, Some, Ok, Err, sym, refl, ap, ◌∙◌}
+use Rattle.std.proofs.Common.{◌≡◌, ℕ, ◌-◌, true, false, eqb, List, length, take, replicate, Some, Ok, Err, refl, ap, ◌∙◌}
 use Rattle.std.proofs.lemmas.List.{take_at}
 use Rattle.std.proofs.lemmas.Bool.{cond-true, cond-false}
 use Rattle.base.specs.Limits.{body_room}
 use Rattle.base.specs.declared.refusal.Cause.TheVariants.{OutletFull}
 use Rattle.parts.specs.Entries.{delivered}
-use Rattle.parts.specs.Holdings.{Holding, Sound, lowest_of, read_answer, read_leaves, take_leaves, padded}
+use Rattle.parts.specs.Holdings.{Holding, read_answer, read_leaves, take_leaves, padded}
 use Rattle.parts.specs.Listings.{Listing, fits, with_entry}
 use Rattle.parts.specs.declared.shelf.Sizes.{Sizes}
-use Rattle.parts.proofs.Lowest.{Lowest, lowest_is, read_buffer, read_ok}
-use Rattle.combinations.specs.Passing.{Passed, passed_by, passed}
+use Rattle.parts.proofs.Lowest.{Lowest, read_buffer, read_ok}
+use Rattle.combinations.specs.Passing.{passed_by, passed}
 
 module _ (h : Holding) (l : Listing) (buffer : List ℕ) (first : ℕ) (sizes : Sizes) (low : Lowest h first) (read : Ok (Some sizes) ≡ read_answer h first buffer) where
   abbrev body : List ℕ

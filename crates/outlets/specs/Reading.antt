@@ -1,5 +1,5 @@
 -- The entries read back out of a file image.
-use Rattle.std.specs.Prelude.{◌≡◌, ℕ, zero, suc, ◌+◌, ◌-◌, ◌*◌, ◌≤◌, Bool, true, cond, ◌&&◌, List, [], ◌∷◌, length, take, drop, ◌==◌, slice_index}
+use Rattle.std.specs.Prelude.{◌≡◌, ℕ, zero, suc, ◌+◌, ◌-◌, ◌≤◌, Bool, true, cond, ◌&&◌, List, [], ◌∷◌, length, take, drop, ◌==◌, slice_index}
 use Rattle.std.proofs.Common.{arith}
 use Rattle.base.specs.Fields.{be}
 use Rattle.base.specs.Limits.{max_entries}

@@ -1,5 +1,5 @@
 -- What the shelf with a heap is made of.
-use Rattle.std.specs.Prelude.{◌≡◌, ◌+◌, length}
+use Rattle.std.specs.Prelude.{length}
 use Rattle.std.proofs.Common.{arith}
 use Rattle.std.proofs.lemmas.List.{length-drop}
 use Rattle.shelves.specs.Heaps.{heap_rows, heap_spares, length-heap}

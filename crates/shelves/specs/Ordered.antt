@@ -1,5 +1,4 @@
 -- What the shelf in number order is made of.
-use Rattle.std.specs.Prelude.{◌≡◌, ◌+◌, length}
 use Rattle.std.proofs.Common.{arith}
 use Rattle.std.proofs.lemmas.List.{length-take, length-drop}
 use Rattle.rows.specs.Meaning.{rows_of, spares_of, room_of}

@@ -1,4 +1,4 @@
-use Rattle.std.proofs.Common.{◌≡◌, sym, ap, ◌∙◌}
+use Rattle.std.proofs.Common.{ap, ◌∙◌}
 use Rattle.base.specs.Areas.{written_at}
 use Rattle.partials.specs.Joining.{join_in, answer_of, after_of, bytes_of}
 use Rattle.partials.specs.declared.head.PartialHead.{PartialHead}
@@ -14,7 +14,7 @@ pub returns-in-Some : goal.returns-in-Some
 returns-in-Some c =
     let ps = partials_of c.args.partials.now in
     let joins = λ (head : PartialHead). join_in c.args.joining.now ps head c.in-Some.fragment.number (piece_of c.args.packet c.args.datagram.now) in
-    let head = c.head-for-head.ensures in
+    let head = c.head_for-head.ensures in
     let e = c.join.ensures in
     fragment c.args.packet c.in-Some.fragment c.args.datagram.now c.args.joining.now c.join.new.joining ps (partials_of c.join.new.self) c.join.result
     c.in-Some.is c.requires.buffer

@@ -13,7 +13,7 @@ pub unreachable-requires : goal.unreachable-requires
 unreachable-requires g c =
     let h = g.S.Shelf.holding c.args.shelf.now in
     let low = lowest_is h c.in-Some.first (g.S.Shelf.sound c.args.shelf.now) c.in-Some.ensures in
-    c.in-default-found.not-Some _ (read_ok h c.in-Some.first low c.args.buffer.now c.in-ok-found.found c.in-ok-found.ensures.answer).1
+    c.in_default-found.not-Some _ (read_ok h c.in-Some.first low c.args.buffer.now c.in_ok-found.found c.in_ok-found.ensures.answer).1
 
 pub returns-in-Err : goal.returns-in-Err
 returns-in-Err g c =
@@ -23,7 +23,7 @@ returns-in-Err g c =
     let first = c.in-Some.first in
     let sizes = c.in-Some-found.sizes in
     let low = lowest_is h first (g.S.Shelf.sound c.args.shelf.now) c.in-Some.ensures in
-    let read : Ok (Some sizes) ≡ read_answer h first buffer = ap Ok (sym c.in-Some-found.is) ∙ c.in-ok-found.ensures.answer in
+    let read : Ok (Some sizes) ≡ read_answer h first buffer = ap Ok (sym c.in-Some-found.is) ∙ c.in_ok-found.ensures.answer in
     let entry : entry_of c.delivered.result ≡ delivered first low.pair.part.body =
     c.delivered.ensures ∙ ap (λ b. delivered first (take sizes.length b)) c.read.ensures.after ∙ ap (delivered first) (message h l buffer first sizes low read) in
     let kept = refused-by l (entry_of c.delivered.result) c.in-Err.refusal c.in-Err.ensures.answer in
@@ -43,10 +43,10 @@ returns g c =
     let first = c.in-Some.first in
     let sizes = c.in-Some-found.sizes in
     let low = lowest_is h first (g.S.Shelf.sound c.args.shelf.now) c.in-Some.ensures in
-    let read : Ok (Some sizes) ≡ read_answer h first buffer = ap Ok (sym c.in-Some-found.is) ∙ c.in-ok-found.ensures.answer in
+    let read : Ok (Some sizes) ≡ read_answer h first buffer = ap Ok (sym c.in-Some-found.is) ∙ c.in_ok-found.ensures.answer in
     let entry : entry_of c.delivered.result ≡ delivered first low.pair.part.body =
     c.delivered.ensures ∙ ap (λ b. delivered first (take sizes.length b)) c.read.ensures.after ∙ ap (delivered first) (message h l buffer first sizes low read) in
-    let put = put_by l (entry_of c.delivered.result) c.in-default-put.field-0 c.in-default-put.ensures.answer in
+    let put = put_by l (entry_of c.delivered.result) c.in_default-put.field-0 c.in_default-put.ensures.answer in
     let is = done h l buffer first sizes low read (ap (fits l) (sym entry) ∙ put.fit) in
     record {
       answer = sym (ap (λ (p : Passed). p.answer) is);

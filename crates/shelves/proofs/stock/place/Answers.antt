@@ -1,4 +1,4 @@
-use Rattle.std.proofs.Common.{◌+◌, ◌*◌, ◌≤◌, length, sym, ap, ◌∙◌, subst, arith}
+use Rattle.std.proofs.Common.{◌+◌, ◌*◌, ◌≤◌, length, sym, ap, ◌∙◌, subst}
 use Rattle.base.specs.Areas.{written_at}
 use Rattle.base.specs.Limits.{body_room}
 use Rattle.rows.specs.Order.{row_of}

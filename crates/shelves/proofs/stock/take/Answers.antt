@@ -1,8 +1,6 @@
-use Rattle.std.proofs.Common.{◌≡◌, Some, sym, ap, ◌∙◌, arith}
+use Rattle.std.proofs.Common.{Some, sym, ap, ◌∙◌}
 use Rattle.std.specs.Option.{option_map}
-use Rattle.parts.specs.Holdings.{sizes_of, take_leaves}
-use Rattle.rows.specs.Order.{remove_by}
-use Rattle.shelves.specs.Racks.{holding_of}
+use Rattle.parts.specs.Holdings.{sizes_of}
 use Rattle.shelves.proofs.Shelving.{found_sizes, row_absent, taken}
 use Rattle.shelves.proofs.stock.take.Goals as goal
 

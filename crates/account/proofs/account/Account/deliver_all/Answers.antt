@@ -1,4 +1,4 @@
-use Rattle.std.proofs.Common.{◌≡◌, ◌+◌, length, Ok, Err, sym, ap, ◌∙◌, arith}
+use Rattle.std.proofs.Common.{◌+◌, Ok, Err, sym, ◌∙◌}
 use Rattle.wire.specs.Messages.{messages_in}
 use Rattle.account.specs.Delivering.{next_at}
 use Rattle.account.specs.States.{numbers_of, state_of, done}

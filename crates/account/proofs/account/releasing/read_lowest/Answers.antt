@@ -1,6 +1,5 @@
-use Rattle.std.proofs.Common.{◌≡◌, ℕ, ◌≤◌, true, eqb, length, take, Some, Ok, sym, ap, ◌∙◌, subst, arith}
+use Rattle.std.proofs.Common.{◌≤◌, length, take, Some, Ok, sym, ap, ◌∙◌, subst}
 use Rattle.std.proofs.lemmas.Bool.{eq-eqb}
-use Rattle.base.specs.Limits.{body_room}
 use Rattle.parts.specs.Holdings.{pair_of}
 use Rattle.parts.proofs.Lowest.{lowest_is, read_whole, read_ok, read_front}
 use Rattle.account.proofs.account.releasing.read_lowest.Goals as goal
@@ -8,12 +7,12 @@ use Rattle.account.proofs.account.releasing.read_lowest.Goals as goal
 pub unreachable-requires : goal.unreachable-requires
 unreachable-requires g c =
     let low = lowest_is (g.S.Shelf.holding c.args.shelf.now) c.args.first (g.S.Shelf.sound c.args.shelf.now) c.requires.lowest in
-    c.in-default.not-Ok _ (c.read.ensures.answer ∙ read_whole _ c.args.first low c.args.plain.now (eq-eqb _ _ c.requires.plain))
+    c.in_default.not-Ok _ (c.read.ensures.answer ∙ read_whole _ c.args.first low c.args.plain.now (eq-eqb _ _ c.requires.plain))
 
-pub unreachable-requires-in-default-found : goal.unreachable-requires-in-default-found
-unreachable-requires-in-default-found g c =
+pub unreachable-requires-in_default-found : goal.unreachable-requires-in_default-found
+unreachable-requires-in_default-found g c =
     let low = lowest_is (g.S.Shelf.holding c.args.shelf.now) c.args.first (g.S.Shelf.sound c.args.shelf.now) c.requires.lowest in
-    c.in-default-found.not-Some _ (read_ok _ c.args.first low c.args.plain.now c.in-Ok.found c.in-Ok.ensures.answer).1
+    c.in_default-found.not-Some _ (read_ok _ c.args.first low c.args.plain.now c.in-Ok.found c.in-Ok.ensures.answer).1
 
 pub returns : goal.returns
 returns g c =

@@ -1,4 +1,3 @@
-use Rattle.std.proofs.Common.{arith}
 use Rattle.parts.specs.Given.{entry_of}
 use Rattle.outlets.proofs.Tables.{append_leaves}
 use Rattle.outlets.proofs.table.Lent.append.Goals as goal
