@@ -1,5 +1,5 @@
 // Splitting a plain body into its messages.
-ghost use Rattle.std.specs.Prelude.{◌≡◌, ◌+◌, ◌<◌, ◌≤◌, ◌||◌, eqb, map, length, IfOk, if◌then◌else◌, Ok, Err, nat_lt};
+ghost use Rattle.std.specs.Prelude.{◌≡◌, ◌+◌, ◌<◌, ◌≤◌, ◌||◌, map, length, IfOk, if◌then◌else◌, Ok, Err, ◌==◌, nat_lt};
 ghost use Rattle.base.specs.Fields.{be};
 ghost use Rattle.base.specs.Limits.{max_message};
 ghost use Rattle.base.specs.declared.refusal.Cause.TheVariants.{MessageLengths};
@@ -28,7 +28,7 @@ fn misfit(index: usize) -> Refusal
 // Where the message behind `index` others ends in `size` bytes, if it starts at `at` and has its place.
 fn end_of(index: usize, at: usize, length: [u8; 4], size: usize) -> Result<usize, Refusal>
     requires { (at ≤ size) × (index < size) }
-    ensures value { result ≡ (if eqb (be 4 length 0) 0 || (nat_lt max_message (be 4 length 0) || nat_lt size (at + be 4 length 0)) then Err (record { cause = MessageLengths; value = index + 1 }) else Ok (at + be 4 length 0)) }
+    ensures value { result ≡ (if be 4 length 0 == 0 || (nat_lt max_message (be 4 length 0) || nat_lt size (at + be 4 length 0)) then Err (record { cause = MessageLengths; value = index + 1 }) else Ok (at + be 4 length 0)) }
     ensures bound { IfOk result (λ end. end ≤ size) }
 {
     let bytes = u32::from_be_bytes(length) as usize;
