@@ -1,9 +1,9 @@
 -- The first rows of the lent ones.
-use Rattle.std.proofs.Common.{◌≡◌, ℕ, zero, suc, ◌<◌, ◌≤◌, true, false, List, [], ◌∷◌, ◌++◌, length, get_or, take, set, is_some, Some, None, Option, sym, refl, ap, ◌∙◌, arith}
+use Rattle.std.proofs.Common.{◌≡◌, ℕ, zero, suc, ◌<◌, ◌≤◌, true, false, List, [], ◌∷◌, ◌++◌, length, get_or, take, drop, set, is_some, Some, None, Option, sym, refl, ap, ◌∙◌, arith}
 use Rattle.std.specs.Option.{option_to_list}
 use Rattle.std.specs.List.{slice_get}
 use Rattle.std.proofs.lemmas.Option.{slice_get-get_or}
-use Rattle.std.proofs.lemmas.List.{length-take-le, length-take, length-set, get_or-take}
+use Rattle.std.proofs.lemmas.List.{length-take-le, length-take, length-set, get_or-take, drop-set-lt}
 use Rattle.rows.specs.Order.{ascends, is_before, place_of, index_of, with_part, change_by}
 use Rattle.rows.specs.declared.row.Row.{Row}
 use Rattle.rows.specs.declared.row.Side.{Side}
@@ -49,7 +49,7 @@ module _ {P : Type 0} (xs : List (Row P)) (len : ℕ) (fits : len ≤ length xs)
 
   -- A part that is written at the place of its number.
   pub change_upto : (i k : ℕ) (p : P) (zs : List (Row P)) → index_of k (take len xs) ≡ Some i → ((d : Row P) → zs ≡ set xs i (with_part p (get_or xs i d)))
-      → (take len zs ≡ change_by k p (take len xs)) × (length zs ≡ length xs)
+      → (take len zs ≡ change_by k p (take len xs)) × (length zs ≡ length xs) × (drop len zs ≡ drop len xs)
   change_upto i k p zs e same =
       let d : Row P = record { number = 0; part = p } in
       let has = at k (take len xs) i e in
@@ -57,4 +57,5 @@ module _ {P : Type 0} (xs : List (Row P)) (len : ℕ) (fits : len ≤ length xs)
       let here = get_or-take len xs i d (omega (arith, has.within)) in (
         ap (take len) (same d) ∙ take-of_set len xs i (with_part p (get_or xs i d)) ∙ ap (λ y. set (take len xs) i (with_part p y)) (sym here) ∙ sym (has.with p d),
         ap length (same d) ∙ length-set xs i (with_part p (get_or xs i d)),
+        ap (drop len) (same d) ∙ drop-set-lt len xs i (with_part p (get_or xs i d)) (omega (arith, has.within)),
       )

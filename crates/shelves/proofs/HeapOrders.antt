@@ -5,8 +5,7 @@ use Rattle.std.proofs.lemmas.List.{length-take-le, get_or_read, get_or-take}
 use Rattle.std.proofs.lemmas.List.Edits.{Swapped}
 use Rattle.std.proofs.lemmas.Bool.{cases_eq, cases_lt, leb-true, le-leb, and_parts, and_from}
 use Rattle.rows.specs.Order.{rises}
-use Rattle.shelves.specs.Sifting.{sort_by}
-use Rattle.shelves.specs.Sifting.{above, number_at, heap_to, heaped, Lower, Higher, Near, Least}
+use Rattle.shelves.specs.Sifting.{sort_by, above, number_at, heap_to, heaped, Lower, Higher, Near, Least}
 use Rattle.rows.specs.declared.row.Row.{Row}
 use Rattle.shelves.proofs.Sorts.{sort_first}
 

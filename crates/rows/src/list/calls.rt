@@ -148,6 +148,7 @@ impl<'a, P: Copy> OrderedList<'a, P> {
     pub fn change(&mut self, number: u64, part: P) -> bool
         ensures answer { result ≡ is_some (row_of number (rows_of self.old)) }
         ensures after { rows_of self.new ≡ change_by number part (rows_of self.old) }
+        ensures spares { spares_of self.new ≡ spares_of self.old }
         ensures room { room_of self.new ≡ room_of self.old }
     {
         let Some(i) = self.index(number) else {

@@ -1,4 +1,4 @@
-use Rattle.std.proofs.Common.{◌≡◌, take, is_some, Some, None, sym, refl, ap, ◌∙◌, arith}
+use Rattle.std.proofs.Common.{◌≡◌, take, drop, is_some, Some, None, sym, refl, ap, ◌∙◌, arith}
 use Rattle.std.proofs.lemmas.List.{length-take-le}
 use Rattle.rows.specs.Order.{index_of, change_by}
 use Rattle.rows.specs.Meaning.{rows_of}
@@ -10,7 +10,7 @@ pub returns-in_default : goal.returns-in_default
 returns-in_default g c =
     let none : index_of c.args.number (rows_of c.args.self.now) ≡ None = cc in
     let lacks = absent c.args.number (rows_of c.args.self.now) none in
-    record { answer = sym (ap is_some lacks.row); after = sym (lacks.with c.args.part); room = refl }
+    record { answer = sym (ap is_some lacks.row); after = sym (lacks.with c.args.part); spares = refl; room = refl }
 
 pub change_at-requires : goal.change_at-requires
 change_at-requires g c =
@@ -39,5 +39,6 @@ returns g c =
     record {
       answer = sym has.there;
       after = ap (λ n. take n c.change_at.new.self.rows.now) c.change_at.ensures.len ∙ is.0;
+      spares = ap (λ n. drop n c.change_at.new.self.rows.now) c.change_at.ensures.len ∙ is.2;
       room = is.1;
     }
