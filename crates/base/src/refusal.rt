@@ -2,6 +2,9 @@
 ghost use Rattle.std.specs.Prelude.{◌≡◌};
 ghost use Rattle.base.specs.Refusals.{rule_of};
 
+use std::error::Error;
+use std::fmt;
+
 /// The layer that refuses: the layers of an arrival in their order, or a call by itself.
 #[derive(Clone, Copy)]
 pub enum Layer {
@@ -45,7 +48,7 @@ pub enum Returned {
 }
 
 /// Every cause of a refusal.
-#[derive(Clone, Copy)]
+#[derive(Clone, Copy, Debug)]
 pub enum Cause {
     /// A working buffer or the packer's buffer has a wrong size.
     BufferSize,
@@ -132,11 +135,28 @@ pub struct Rule {
 }
 
 /// A refusal: the cause, and the value that its rule names.
-#[derive(Clone, Copy)]
+#[derive(Clone, Copy, Debug)]
 pub struct Refusal {
     pub cause: Cause,
     pub value: u64,
 }
+
+impl Refusal {
+    /// A refusal for a cause, with its value.
+    pub fn new(cause: Cause, value: u64) -> Refusal
+        ensures { result ≡ record { cause = cause; value = value } }
+    {
+        Refusal { cause, value }
+    }
+}
+
+impl fmt::Display for Refusal {
+    fn fmt<W: fmt::Write>(&self, f: &mut fmt::Formatter<W>) -> fmt::Result {
+        write!(f, "{} {}", self.cause.number(), self.value)
+    }
+}
+
+impl Error for Refusal {}
 
 // A row of the table in `rule`.
 fn row(number: u16, layer: Layer, returned: Returned) -> Rule
