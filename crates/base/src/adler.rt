@@ -7,40 +7,41 @@ const MODULUS: u32 = 65_521;
 // So many bytes fit into both sums before they must be reduced.
 const BLOCK: usize = 3_840;
 
-// Both sums over a block, reduced at its end.
-fn block_sums(start: (u32, u32), block: &[u8]) -> (u32, u32)
-    requires { (start.0 < 65521) × ((start.1 < 65521) × (length block.now ≤ 3840)) }
-    ensures value { result ≡ fold add_byte start block.now }
-    ensures small { (result.0 < 65521) × (result.1 < 65521) }
-{
-    let (mut a, mut b) = start;
-    for x in block {
-        a += u32::from(*x);
-        b += a;
-    }
-    (a % MODULUS, b % MODULUS)
+// Both sums, reduced.
+#[derive(Clone, Copy)]
+struct Sums {
+    a: u32,
+    b: u32,
+    ghost small_a: { a < 65521 },
+    ghost small_b: { b < 65521 },
 }
 
-// Both sums over any bytes.
-fn sums(start: (u32, u32), bytes: &[u8]) -> (u32, u32)
-    requires { (start.0 < 65521) × (start.1 < 65521) }
-    ensures value { result ≡ fold add_byte start bytes.now }
-    ensures small { (result.0 < 65521) × (result.1 < 65521) }
-{
-    let mut at = start;
-    let mut rest = bytes;
-    while rest.len() > BLOCK {
-        let (block, more) = rest.split_at(BLOCK);
-        at = block_sums(at, block);
-        rest = more;
+impl Sums {
+    // The sums with a block of bytes added.
+    fn with_block(self, block: &[u8]) -> Sums
+        requires { length block.now ≤ BLOCK }
+        ensures { (result.a, result.b) ≡ fold add_byte (self.a, self.b) block.now }
+    {
+        let mut a = self.a;
+        let mut b = self.b;
+        for x in block {
+            a += u32::from(*x);
+            b += a;
+        }
+        Sums {
+            a: a % MODULUS,
+            b: b % MODULUS,
+        }
     }
-    block_sums(at, rest)
 }
 
 /// The Adler-32 of bytes.
 pub fn adler32(bytes: &[u8]) -> u32
     ensures { result ≡ adler_of bytes.now }
 {
-    let (a, b) = sums((1, 0), bytes);
-    b * 65_536 + a
+    let mut sums = Sums { a: 1, b: 0 };
+    for block in bytes.chunks(BLOCK) {
+        sums = sums.with_block(block);
+    }
+    sums.b * 65_536 + sums.a
 }

@@ -7,10 +7,7 @@ pub fn write_at(area: &mut [u8], at: usize, part: &[u8]) -> Option<usize>
     ensures end { result ≡ (if nat_le (at + length part.now) (length area.old) then Some (at + length part.now) else None) }
     ensures after { area.new ≡ (if nat_le (at + length part.now) (length area.old) then written_at area.old at part.now else area.old) }
 {
-    if part.len() > area.len() || at > area.len() - part.len() {
-        return None;
-    }
-    let end = at + part.len();
+    let end = at.checked_add(part.len()).filter(|&end| end <= area.len())?;
     area[at..end].copy_from_slice(part);
     Some(end)
 }
@@ -26,6 +23,7 @@ pub fn zero(area: &mut [u8])
 pub fn zero_from(area: &mut [u8], at: usize)
     ensures { area.new ≡ take at area.old ++ replicate (length area.old - at) 0 }
 {
+    // By an index: what `get_mut` lends comes back with nothing known of it but its length.
     if at < area.len() {
         zero(&mut area[at..]);
     }

@@ -1,6 +1,6 @@
 use Rattle.std.proofs.Common.{◌≡◌, ◌+◌, ◌*◌, ◌%◌, ◌≤◌, take, fold}
 use Rattle.base.specs.Adler.{add_byte}
-use Rattle.base.proofs.adler.block_sums.Given as goal
+use Rattle.base.proofs.adler.Sums.with_block.Given as goal
 
 abbrev pub invariant-loop-x : goal.invariant-loop-x
 invariant-loop-x l =
