@@ -1,37 +1,65 @@
 -- Places in rows, and that the order is kept.
 use Rattle.std.proofs.Common.{◌≡◌, ℕ, zero, suc, ◌<◌, ◌≤◌, Bool, true, false, cond, ◌&&◌, eqb, ltb, leb, List, [], ◌∷◌, length, get_or, set, is_some, Some, None, Option, sym, refl, ap, ◌∙◌, ⊎_elim, arith}
+use Rattle.std.specs.Bool.{then_some}
 use Rattle.std.specs.List.{insert, remove, slice_get}
+use Rattle.std.specs.List.Sorted.{IsNonDecreasingBy, IsPartitionPoint}
+use Rattle.std.proofs.lemmas.Option.{slice_get-get_or, slice_get_within, get_or_from_slice_get}
+use Rattle.rows.proofs.Rises.{index_is, index_none}
 use Rattle.std.specs.Option.{option_map}
-use Rattle.std.proofs.lemmas.Bool.{cases_Bool, cases_eq, ltb-true, ltb-false, leb-true, leb-false, le-leb, eq-eqb, ne_eqb, and_parts, and_from, cond-true, cond-false}
-use Rattle.rows.specs.Order.{all_from, ascends, is_before, place_of, index_of, row_of, insert_by, remove_by, with_part, change_by}
+use Rattle.std.proofs.lemmas.Bool.{cases_Bool, cases_lt, eqb-true, eqb-false, ltb-true, ltb-false, leb-true, leb-false, le-leb, and_parts, and_from, cond-true, cond-false}
+use Rattle.rows.specs.Order.{all_from, ascends, index_of, row_of, insert_by, remove_by, with_part, change_by}
 use Rattle.rows.specs.declared.row.Row.{Row}
-use Rattle.rows.specs.declared.row.Side.{Side}
-use Rattle.rows.specs.declared.row.Side.TheVariants.{Before, Behind}
 
 some-none : {X : Type 0} (x : X) → Some x ≡ None → ⊥
 some-none x e = let z : ◌≡◌ {A = ℕ} 0 1 = cc in omega arith
 
 module _ {P : Type 0} where
-  -- A place is told by the rows before it and the row at it.
-  pub place_is : (side : Side) (k : ℕ) (xs : List (Row P)) (i : ℕ) → i ≤ length xs → ((j : ℕ) (d : Row P) → j < i → is_before side k (get_or xs j d) ≡ true)
-      → ((d : Row P) → i < length xs → is_before side k (get_or xs i d) ≡ false) → i ≡ place_of side k xs
-  place_is side k [] i le below at = omega arith
-  place_is side k (x ∷ xs) zero le below at = sym (cond-false (is_before side k x) _ _ (at x (omega arith)))
-  place_is side k (x ∷ xs) (suc i) le below at =
-      ap suc (place_is side k xs i (omega arith) (λ j d h. below (suc j) d (omega arith)) (λ d h. at d (omega arith)))
-      ∙ sym (cond-true (is_before side k x) _ _ (below 0 x (omega arith)))
+  -- Rows in order, as the library says it.
+  from_at : (k : ℕ) (xs : List (Row P)) (j : ℕ) (d : Row P) → all_from k xs ≡ true → j < length xs → k ≤ (get_or xs j d).number
+  from_at k [] j d e lt = absurd (omega arith)
+  from_at k (x ∷ xs) zero d e lt = leb-true k x.number (and_parts _ _ e).0
+  from_at k (x ∷ xs) (suc j) d e lt = from_at k xs j d (and_parts _ _ e).1 (omega arith)
 
-  pub place_fits : (side : Side) (k : ℕ) (xs : List (Row P)) → place_of side k xs ≤ length xs
-  place_fits side k [] = omega arith
-  place_fits side k (x ∷ xs) =
-      elim (is_before side k x) as (λ b. cond b (suc (place_of side k xs)) 0 ≤ suc (length xs)) [ true ↦ omega (arith, place_fits side k xs) | false ↦ omega arith ]
+  pub ascends_non_decreasing : (xs : List (Row P)) → ascends xs ≡ true → IsNonDecreasingBy (λ (r : Row P). r.number) xs
+  ascends_non_decreasing [] s i j d le lt = absurd (omega arith)
+  ascends_non_decreasing (x ∷ xs) s zero zero d le lt = omega arith
+  ascends_non_decreasing (x ∷ xs) s zero (suc j) d le lt = from_at x.number xs j d (and_parts _ _ s).0 (omega arith)
+  ascends_non_decreasing (x ∷ xs) s (suc i) zero d le lt = absurd (omega arith)
+  ascends_non_decreasing (x ∷ xs) s (suc i) (suc j) d le lt = ascends_non_decreasing xs (and_parts _ _ s).1 i j d (omega arith) (omega arith)
 
-  -- What is done by number is done at a place.
-  pub insert_is : (r : Row P) (xs : List (Row P)) → insert_by r xs ≡ insert xs (place_of Behind r.number xs) r
-  insert_is r [] = refl
-  insert_is r (x ∷ xs) =
-      elim (leb x.number r.number) as (λ b. cond b (x ∷ insert_by r xs) (r ∷ x ∷ xs) ≡ insert (x ∷ xs) (cond b (suc (place_of Behind r.number xs)) 0) r)
-      [ true ↦ ap (λ l. x ∷ l) (insert_is r xs) | false ↦ refl ]
+  -- What is put behind the rows that are not larger is put in by number.
+  pub insert_is : (r : Row P) (xs : List (Row P)) (i : ℕ) → i ≤ length xs
+      → IsPartitionPoint (λ (x : Row P). leb x.number r.number ≡ true) (λ (x : Row P). leb x.number r.number ≡ false) xs i → insert_by r xs ≡ insert xs i r
+  insert_is r [] zero le p = refl
+  insert_is r [] (suc i) le p = absurd (omega arith)
+  insert_is r (x ∷ xs) zero le p = cond-false _ _ _ (p.1 0 x (omega arith) (omega arith))
+  insert_is r (x ∷ xs) (suc i) le p =
+      cond-true _ _ _ (p.0 0 x (omega arith) (omega arith))
+      ∙ ap (λ l. x ∷ l) (insert_is r xs i (omega arith) (λ k d a b. p.0 (suc k) d (omega arith) (omega arith), λ k d a b. p.1 (suc k) d (omega arith) (omega arith)))
+
+  -- The row behind the smaller ones has the number, or no row has it.
+  module _ (k : ℕ) (xs : List (Row P)) (i : ℕ)
+      (point : IsPartitionPoint (λ (x : Row P). ltb x.number k ≡ true) (λ (x : Row P). ltb x.number k ≡ false) xs i) where
+    before : (j : ℕ) (d : Row P) → j < i → (get_or xs j d).number ≡ k → ⊥
+    before j d lt e = let l = ltb-true (get_or xs j d).number k (point.0 j d (omega arith) lt) in omega arith
+
+    pub missed : slice_get xs i ≡ None → index_of k xs ≡ None
+    missed e = index_none k xs (λ j d lt. before j d (⊎_elim (λ (h : i < length xs). absurd (some-none _ (sym (slice_get-get_or xs i d h) ∙ e))) (λ h. omega arith) (cases_lt i (length xs))))
+
+    pub told : ascends xs ≡ true → (x : Row P) → slice_get xs i ≡ Some x → index_of k xs ≡ then_some (eqb x.number k) i
+    told s x e =
+        let lt : i < length xs = slice_get_within xs i x e in
+        let here : (d : Row P) → (get_or xs i d).number ≡ x.number = λ d. ap (λ (r : Row P). r.number) (get_or_from_slice_get xs i x d e) in
+        ⊎_elim
+        (λ t. index_is k xs i lt before (λ d. here d ∙ eqb-true x.number k t) ∙ ap (λ b. then_some b i) (sym t))
+        (λ f. index_none k xs
+        (λ j d within. ⊎_elim (λ (h : j < i). before j d h)
+        (λ (h : i ≤ j) q.
+        let l = ltb-false (get_or xs i d).number k (point.1 i d (omega arith) lt) in
+        let m = ascends_non_decreasing xs s i j d h within in
+        eqb-false x.number k f (sym (here d) ∙ omega arith)) (cases_lt j i))
+        ∙ ap (λ b. then_some b i) (sym f))
+        (cases_Bool (eqb x.number k))
 
   -- The row that is found at a place i, and what its removal and its change leave.
   pub record At (k : ℕ) (xs : List (Row P)) (i : ℕ) : Type 0 where
@@ -89,45 +117,6 @@ module _ {P : Type 0} where
   pub absent : (k : ℕ) (xs : List (Row P)) → index_of k xs ≡ None → Absent k xs
   absent k [] e = record { row = refl; without = refl; with = λ p. refl }
   absent k (x ∷ xs) e = absent-step k x xs (index_of k xs) (absent k xs) (eqb x.number k) refl e
-
-  -- A look-up by order: the row at the place has the number, or no row has it.
-  pub found : (k : ℕ) (xs : List (Row P)) (d : Row P) → place_of Before k xs < length xs → (get_or xs (place_of Before k xs) d).number ≡ k → index_of k xs ≡ Some (place_of Before k xs)
-  found k [] d lt e = absurd (omega arith)
-  found k (x ∷ xs) d lt e =
-      ⊎_elim
-      (λ t. let l = ltb-true x.number k t in
-      let p : place_of Before k (x ∷ xs) ≡ suc (place_of Before k xs) = cond-true (ltb x.number k) _ _ t in
-      let w : (get_or (x ∷ xs) (suc (place_of Before k xs)) d).number ≡ k = rw p at e in
-      cond-false (eqb x.number k) _ _ (ne_eqb x.number k (λ q. omega arith)) ∙ ap (option_map suc) (found k xs d (omega arith) w) ∙ ap Some (sym p))
-      (λ f. let p : place_of Before k (x ∷ xs) ≡ 0 = cond-false (ltb x.number k) _ _ f in
-      let w : (get_or (x ∷ xs) 0 d).number ≡ k = rw p at e in
-      cond-true (eqb x.number k) _ _ (eq-eqb x.number k w) ∙ ap Some (sym p))
-      (cases_Bool (ltb x.number k))
-
-  from_absent : (k m : ℕ) (xs : List (Row P)) → k < m → all_from m xs ≡ true → index_of k xs ≡ None
-  from_absent k m [] lt e = refl
-  from_absent k m (x ∷ xs) lt e =
-      let h = and_parts (leb m x.number) (all_from m xs) e in
-      let l = leb-true m x.number h.0 in
-      cond-false (eqb x.number k) _ _ (ne_eqb x.number k (λ q. omega arith)) ∙ ap (option_map suc) (from_absent k m xs lt h.1)
-
-  pub missed : (k : ℕ) (xs : List (Row P)) → ascends xs ≡ true
-      → (place_of Before k xs < length xs → (d : Row P) → (get_or xs (place_of Before k xs) d).number ≡ k → ⊥) → index_of k xs ≡ None
-  missed k [] s lack = refl
-  missed k (x ∷ xs) s lack =
-      let h = and_parts (all_from x.number xs) (ascends xs) s in
-      ⊎_elim
-      (λ t. let l = ltb-true x.number k t in
-      let p : place_of Before k (x ∷ xs) ≡ suc (place_of Before k xs) = cond-true (ltb x.number k) _ _ t in
-      let w : (suc (place_of Before k xs) < suc (length xs) → (d : Row P) → (get_or (x ∷ xs) (suc (place_of Before k xs)) d).number ≡ k → ⊥) = rw p at lack in
-      cond-false (eqb x.number k) _ _ (ne_eqb x.number k (λ q. omega arith)) ∙ ap (option_map suc) (missed k xs h.1 (λ m. w (omega arith))))
-      (λ f. let le = ltb-false x.number k f in
-      let p : place_of Before k (x ∷ xs) ≡ 0 = cond-false (ltb x.number k) _ _ f in
-      let w : (0 < suc (length xs) → (d : Row P) → (get_or (x ∷ xs) 0 d).number ≡ k → ⊥) = rw p at lack in
-      let ne : x.number ≡ k → ⊥ = w (omega arith) x in
-      cond-false (eqb x.number k) _ _ (ne_eqb x.number k ne)
-      ∙ ⊎_elim (λ q. absurd (ne q)) (λ q. ap (option_map suc) (from_absent k x.number xs (omega arith) h.0)) (cases_eq x.number k))
-      (cases_Bool (ltb x.number k))
 
   -- The order is kept.
   from_less : (a b : ℕ) (xs : List (Row P)) → b ≤ a → all_from a xs ≡ true → all_from b xs ≡ true

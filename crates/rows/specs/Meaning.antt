@@ -6,13 +6,13 @@ use Rattle.rows.specs.declared.list.OrderedList.{OrderedList}
 use Rattle.rows.specs.declared.list.Full.{Full}
 
 abbrev pub rows_of : {P : Type 0} → OrderedList P → List (Row P)
-rows_of l = take l.lent.len l.lent.rows.now
+rows_of l = take l.len l.rows.now
 
 abbrev pub spares_of : {P : Type 0} → OrderedList P → List (Row P)
-spares_of l = drop l.lent.len l.lent.rows.now
+spares_of l = drop l.len l.rows.now
 
 abbrev pub room_of : {P : Type 0} → OrderedList P → ℕ
-room_of l = length l.lent.rows.now
+room_of l = length l.rows.now
 
 -- An insertion is refused only where no row is free, and then nothing changes.
 abbrev pub insert_answer : {P : Type 0} → ℕ → List (Row P) → Result (Unit {0}) Full

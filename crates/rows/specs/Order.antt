@@ -2,8 +2,6 @@
 use Rattle.std.specs.Prelude.{ℕ, suc, Bool, true, cond, ◌&&◌, List, [], ◌∷◌, Some, None, Option, ◌==◌, nat_le, nat_lt}
 use Rattle.std.specs.Option.{option_map}
 use Rattle.rows.specs.declared.row.Row.{Row}
-use Rattle.rows.specs.declared.row.Side.{Side}
-use Rattle.rows.specs.declared.row.Side.TheVariants.{Before, Behind}
 
 -- No row has a number below k; no row has one below an earlier row's.
 abbrev pub all_from : {P : Type 0} → ℕ → List (Row P) → Bool
@@ -22,15 +20,6 @@ all_above k (x ∷ xs) = nat_lt k x.number && all_above k xs
 abbrev pub rises : {P : Type 0} → List (Row P) → Bool
 rises [] = true
 rises (x ∷ xs) = all_above x.number xs && rises xs
-
--- How many rows stand before a number's place, which is before or behind the rows that have it.
-abbrev pub is_before : {P : Type 0} → Side → ℕ → Row P → Bool
-is_before Before k x = nat_lt x.number k
-is_before Behind k x = nat_le x.number k
-
-abbrev pub place_of : {P : Type 0} → Side → ℕ → List (Row P) → ℕ
-place_of side k [] = 0
-place_of side k (x ∷ xs) = cond (is_before side k x) (suc (place_of side k xs)) 0
 
 -- The first row with a number: its place, itself, the rows without it, the rows with another part in it.
 abbrev pub index_of : {P : Type 0} → ℕ → List (Row P) → Option ℕ

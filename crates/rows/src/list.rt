@@ -3,25 +3,29 @@ ghost use Rattle.std.specs.Prelude.{◌≡◌, ◌≤◌, true, length, take};
 ghost use Rattle.rows.specs.Order.{ascends};
 
 use crate::row::Row;
+use std::error::Error;
+use std::fmt;
 
 mod calls;
 mod moves;
 
-// The lent rows, and how many of them are in use.
-#[derive(Drop)]
-struct Lent<'a, P: Copy> {
-    rows: &'a mut [Row<P>],
-    len: usize,
-}
-
-/// Rows in number order over lent memory.
+/// Rows in number order over lent memory: the first `len` of the lent rows are in use.
 #[derive(Drop)]
 pub struct OrderedList<'a, P: Copy> {
-    lent: Lent<'a, P>,
-    ghost fits: { lent.len ≤ length lent.rows.now },
-    ghost sorted: { ascends (take lent.len lent.rows.now) ≡ true },
+    rows: &'a mut [Row<P>],
+    len: usize,
+    ghost fits: { len ≤ length rows.now },
+    ghost sorted: { ascends (take len rows.now) ≡ true },
 }
 
 /// No row is free.
-#[derive(Clone, Copy)]
-pub struct Full {}
+#[derive(Clone, Copy, Debug)]
+pub struct Full;
+
+impl fmt::Display for Full {
+    fn fmt<W: fmt::Write>(&self, f: &mut fmt::Formatter<W>) -> fmt::Result {
+        f.write_str("no row is free")
+    }
+}
+
+impl Error for Full {}

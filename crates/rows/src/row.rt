@@ -6,10 +6,3 @@ pub struct Row<P> {
     pub number: u64,
     pub part: P,
 }
-
-/// Where a number's place is among rows that have it: before them or behind them.
-#[derive(Clone, Copy)]
-pub(crate) enum Side {
-    Before,
-    Behind,
-}

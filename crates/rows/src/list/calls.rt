@@ -1,21 +1,13 @@
 // What an ordered list is asked.
-ghost use Rattle.std.specs.Prelude.{◌≡◌, ◌-◌, ◌≤◌, [], ◌++◌, length, drop, is_some};
+ghost use Rattle.std.specs.Prelude.{◌≡◌, ◌-◌, ◌<◌, ◌≤◌, [], ◌++◌, length, drop, is_some, IfSome};
 ghost use Rattle.std.specs.Option.{option_to_list};
 ghost use Rattle.std.specs.List.{slice_get};
-ghost use Rattle.rows.specs.Order.{is_before, place_of, index_of, row_of, remove_by, change_by};
+ghost use Rattle.rows.specs.Order.{index_of, row_of, remove_by, change_by};
 ghost use Rattle.rows.specs.Meaning.{rows_of, spares_of, room_of, insert_answer, insert_leaves};
 
-use super::{Full, Lent, OrderedList};
-use crate::row::{Row, Side};
-
-fn is_before<P: Copy>(side: Side, number: u64, row: Row<P>) -> bool
-    ensures { result ≡ is_before side number row }
-{
-    match side {
-        Side::Before => row.number < number,
-        Side::Behind => row.number <= number,
-    }
-}
+use super::moves::{close_rows, open_rows};
+use super::{Full, OrderedList};
+use crate::row::Row;
 
 impl<'a, P: Copy> OrderedList<'a, P> {
     /// An empty list over the lent rows, whatever they hold.
@@ -24,9 +16,7 @@ impl<'a, P: Copy> OrderedList<'a, P> {
         ensures spares { spares_of result ≡ rows.old }
         ensures room { room_of result ≡ length rows.old }
     {
-        OrderedList {
-            lent: Lent { rows, len: 0 },
-        }
+        OrderedList { rows, len: 0 }
     }
 
     /// How many rows it has.
@@ -34,33 +24,28 @@ impl<'a, P: Copy> OrderedList<'a, P> {
         ensures value { result ≡ length (rows_of self.now) }
         ensures within { result ≤ room_of self.now }
     {
-        self.lent.len
+        self.len
     }
 
     /// How many rows it has room for.
     pub fn room(&self) -> usize
         ensures { result ≡ room_of self.now }
     {
-        let rows = &*self.lent.rows;
-        rows.len()
+        self.rows.len()
     }
 
     /// How many rows are free.
     pub fn free(&self) -> usize
         ensures { result ≡ room_of self.now - length (rows_of self.now) }
     {
-        self.lent.rows.len() - self.lent.len
+        self.room() - self.len()
     }
 
     /// The row at a place, from 0.
     pub fn get(&self, i: usize) -> Option<Row<P>>
         ensures { result ≡ slice_get (rows_of self.now) i }
     {
-        if i >= self.lent.len {
-            return None;
-        }
-        let rows = &*self.lent.rows;
-        Some(rows[i])
+        self.used().get(i).copied()
     }
 
     /// The row with the smallest number.
@@ -74,43 +59,31 @@ impl<'a, P: Copy> OrderedList<'a, P> {
     pub fn spare(&self) -> Option<Row<P>>
         ensures { result ≡ slice_get (spares_of self.now) 0 }
     {
-        let rows = &*self.lent.rows;
-        if self.lent.len == rows.len() {
-            return None;
-        }
-        Some(rows[self.lent.len])
+        self.rows[self.len..].first().copied()
     }
 
-    fn place(&self, side: Side, number: u64) -> usize
-        ensures { result ≡ place_of side number (rows_of self.now) }
+    // The rows in use.
+    fn used(&self) -> &[Row<P>]
+        ensures { result.now ≡ rows_of self.now }
     {
-        let rows = &*self.lent.rows;
-        let mut i = 0;
-        'rows: while i < self.lent.len && is_before(side, number, rows[i]) {
-            i += 1;
-        }
-        i
+        &self.rows[..self.len]
     }
 
+    // The place of the first row with a number.
     fn index(&self, number: u64) -> Option<usize>
-        ensures { result ≡ index_of number (rows_of self.now) }
+        ensures value { result ≡ index_of number (rows_of self.now) }
+        ensures within { IfSome result (λ i. i < self.now.len) }
     {
-        let i = self.place(Side::Before, number);
-        let rows = &*self.lent.rows;
-        if i < self.lent.len && rows[i].number == number {
-            Some(i)
-        } else {
-            None
-        }
+        let i = self.used().partition_point(|row| row.number < number);
+        let row = self.get(i)?;
+        (row.number == number).then_some(i)
     }
 
     /// The first row with a number.
     pub fn find(&self, number: u64) -> Option<Row<P>>
         ensures { result ≡ row_of number (rows_of self.now) }
     {
-        let Some(i) = self.index(number) else {
-            return None;
-        };
+        let i = self.index(number)?;
         self.get(i)
     }
 
@@ -121,11 +94,14 @@ impl<'a, P: Copy> OrderedList<'a, P> {
         ensures spares { spares_of self.new ≡ drop 1 (spares_of self.old) }
         ensures room { room_of self.new ≡ room_of self.old }
     {
-        if self.lent.len == self.lent.rows.len() {
-            return Err(Full {});
+        if self.len == self.rows.len() {
+            return Err(Full);
         }
-        let i = self.place(Side::Behind, row.number);
-        self.lent.open_at(i, row);
+        let i = self
+            .used()
+            .partition_point(|other| other.number <= row.number);
+        open_rows(self.rows, self.len, i, row);
+        self.len += 1;
         Ok(())
     }
 
@@ -136,11 +112,10 @@ impl<'a, P: Copy> OrderedList<'a, P> {
         ensures spares { spares_of self.new ≡ option_to_list result ++ spares_of self.old }
         ensures room { room_of self.new ≡ room_of self.old }
     {
-        let Some(i) = self.index(number) else {
-            return None;
-        };
+        let i = self.index(number)?;
         let row = self.get(i);
-        self.lent.close_at(i);
+        close_rows(self.rows, self.len, i);
+        self.len -= 1;
         row
     }
 
@@ -154,7 +129,7 @@ impl<'a, P: Copy> OrderedList<'a, P> {
         let Some(i) = self.index(number) else {
             return false;
         };
-        self.lent.change_at(i, part);
+        self.rows[i].part = part;
         true
     }
 }

@@ -1,27 +1,41 @@
-use Rattle.std.proofs.Common.{◌≡◌, true, ltb, length, take, sym, ◌∙◌, arith}
-use Rattle.std.proofs.lemmas.List.{length-take-le, drop-drop}
+use Rattle.std.proofs.Common.{◌≡◌, ◌+◌, true, false, leb, ltb, length, take, sym, ◌∙◌, arith, rules}
+use Rattle.std.specs.List.Sorted.{IsPartitionPoint}
 use Rattle.std.proofs.lemmas.Bool.{lt-ltb, cond-true}
-use Rattle.rows.specs.Order.{insert_by}
+use Rattle.std.proofs.lemmas.List.{drop-drop, length-take-le}
+use Rattle.std.proofs.lemmas.List.Sorted.{IsPartitionPoint-from_clause, IsPartitionedBy-leb}
+use Rattle.rows.specs.Order.{ascends, insert_by}
 use Rattle.rows.specs.Meaning.{rows_of, room_of}
-use Rattle.rows.specs.declared.row.Side.TheVariants.{Behind}
-use Rattle.rows.proofs.Orders.{place_fits, insert_is, ascends-insert}
+use Rattle.rows.specs.declared.row.Row.{Row}
+use Rattle.rows.proofs.Orders.{ascends_non_decreasing, insert_is, ascends-insert}
 use Rattle.rows.proofs.list.OrderedList.insert.Goals as goal
-
-pub open_at-requires : goal.open_at-requires
-open_at-requires g c =
-    let n = length-take-le c.args.self.now.lent.len c.args.self.now.lent.rows.now c.args.self.now.fits in
-    (omega (arith, place_fits Behind c.args.row.number (rows_of c.args.self.now)), omega arith)
 
 pub invariant_of-self : goal.invariant_of-self
 invariant_of-self g c =
-    let put : take c.open_at.new.self.len c.open_at.new.self.rows.now ≡ insert_by c.args.row (rows_of c.args.self.now) =
-    c.open_at.ensures.after ∙ rw c.place-i.ensures (sym (insert_is c.args.row (rows_of c.args.self.now))) in
+    let P = g.row.P.Denot in
+    let xs = c.used.result.now in
+    let order : ascends xs ≡ true = rw c.used.ensures c.args.self.now.sorted in
+    let point : IsPartitionPoint (λ (x : Row P). leb x.number c.args.row.number ≡ true) (λ (x : Row P). leb x.number c.args.row.number ≡ false) xs c.partition_point-i.result =
+    IsPartitionPoint-from_clause (λ (x : Row P). leb x.number c.args.row.number) xs c.partition_point-i.result c.partition_point-i.ensures.partitioned
+    (IsPartitionedBy-leb (λ (r : Row P). r.number) xs c.args.row.number (ascends_non_decreasing xs order)) (λ a r q k. search rules) in
+    let put : take (c.args.self.now.len + 1) c.open_rows.new.rows ≡ insert_by c.args.row (rows_of c.args.self.now) =
+    c.open_rows.ensures.after ∙ sym (insert_is c.args.row (rows_of c.args.self.now) c.partition_point-i.result
+    (rw c.used.ensures at c.partition_point-i.ensures.bound) (rw c.used.ensures at point)) in
     record { fits = omega arith; sorted = rw put (ascends-insert c.args.row (rows_of c.args.self.now) c.args.self.now.sorted) }
 
-pub returns : goal.returns
-returns g c =
-    let n = length-take-le c.args.self.now.lent.len c.args.self.now.lent.rows.now c.args.self.now.fits in
+pub returns-clause-after : goal.returns-clause-after
+returns-clause-after g c =
+    let P = g.row.P.Denot in
+    let xs = c.used.result.now in
+    let order : ascends xs ≡ true = rw c.used.ensures c.args.self.now.sorted in
+    let point : IsPartitionPoint (λ (x : Row P). leb x.number c.args.row.number ≡ true) (λ (x : Row P). leb x.number c.args.row.number ≡ false) xs c.partition_point-i.result =
+    IsPartitionPoint-from_clause (λ (x : Row P). leb x.number c.args.row.number) xs c.partition_point-i.result c.partition_point-i.ensures.partitioned
+    (IsPartitionedBy-leb (λ (r : Row P). r.number) xs c.args.row.number (ascends_non_decreasing xs order)) (λ a r q k. search rules) in
+    let put : take (c.args.self.now.len + 1) c.open_rows.new.rows ≡ insert_by c.args.row (rows_of c.args.self.now) =
+    c.open_rows.ensures.after ∙ sym (insert_is c.args.row (rows_of c.args.self.now) c.partition_point-i.result
+    (rw c.used.ensures at c.partition_point-i.ensures.bound) (rw c.used.ensures at point)) in
+    let n = length-take-le c.args.self.now.len c.args.self.now.rows.now c.args.self.now.fits in
     let free : ltb (length (rows_of c.args.self.now)) (room_of c.args.self.now) ≡ true = lt-ltb _ _ (omega arith) in
-    let put : take c.open_at.new.self.len c.open_at.new.self.rows.now ≡ insert_by c.args.row (rows_of c.args.self.now) =
-    c.open_at.ensures.after ∙ rw c.place-i.ensures (sym (insert_is c.args.row (rows_of c.args.self.now))) in
-    record { answer = sym (cond-true _ _ _ free); after = put ∙ sym (cond-true _ _ _ free); spares = c.open_at.ensures.spares ∙ sym (drop-drop 1 c.args.self.now.lent.len c.args.self.now.lent.rows.now); room = c.open_at.ensures.room }
+    put ∙ sym (cond-true _ _ _ free)
+
+pub returns-clause-spares : goal.returns-clause-spares
+returns-clause-spares g c = c.open_rows.ensures.spares ∙ sym (drop-drop 1 c.args.self.now.len c.args.self.now.rows.now)
