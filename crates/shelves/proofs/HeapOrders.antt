@@ -1,7 +1,7 @@
 -- The heap order over numbers, and what an exchange does to it.
-use Rattle.std.proofs.Common.{◌≡◌, ℕ, zero, suc, ◌+◌, ◌*◌, ◌/◌, ◌<◌, ◌≤◌, true, leb, List, [], ◌∷◌, length, get_or, take, set, Some, sym, refl, ap, ◌∙◌, inl, inr, ⊎_elim, arith}
+use Rattle.std.proofs.Common.{◌≡◌, ℕ, zero, suc, ◌+◌, ◌*◌, ◌/◌, ◌<◌, ◌≤◌, true, leb, List, [], ◌∷◌, length, get_or, set, Some, sym, refl, ap, ◌∙◌, inl, inr, ⊎_elim, arith}
 use Rattle.std.specs.List.{slice_get}
-use Rattle.std.proofs.lemmas.List.{length-take-le, get_or_read, get_or-take}
+use Rattle.std.proofs.lemmas.List.{get_or_read}
 use Rattle.std.proofs.lemmas.List.Edits.{Swapped}
 use Rattle.std.proofs.lemmas.Bool.{cases_eq, cases_lt, leb-true, le-leb, and_parts, and_from}
 use Rattle.rows.specs.Order.{rises}
@@ -181,9 +181,6 @@ module _ {P : Type 0} where
         ap (λ (r : Row P). r.number) (m.2 z),
       ))
 
-  -- The same, of the first rows of the lent ones.
-  pub root_used : (rows : List (Row P)) (len : ℕ) (x : Row P) → len ≤ length rows → heaped (take len rows) ≡ true → rises (sort_by (take len rows)) ≡ true
-      → 0 < len → x ≡ get_or rows 0 x → Some x ≡ slice_get (sort_by (take len rows)) 0
-  root_used rows len x fits h s lt e =
-      let n = length-take-le len rows fits in
-      sym (root_first (take len rows) x h s (omega arith) (e ∙ sym (get_or-take len rows 0 x lt)))
+  pub heap_first : (xs : List (Row P)) → heaped xs ≡ true → rises (sort_by xs) ≡ true → slice_get xs 0 ≡ slice_get (sort_by xs) 0
+  heap_first [] h s = refl
+  heap_first (x ∷ xs) h s = sym (root_first (x ∷ xs) x h s (omega arith) refl)

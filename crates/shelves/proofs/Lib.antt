@@ -5,3 +5,4 @@ pub mod Sorts
 pub mod HeapOrders
 pub mod Moves
 pub mod Racking
+pub mod Counting

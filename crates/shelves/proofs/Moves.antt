@@ -9,7 +9,7 @@ use Rattle.shelves.specs.Sifting.{number_at, heaped, Lower, Near}
 use Rattle.rows.specs.declared.row.Row.{Row}
 use Rattle.shelves.proofs.HeapOrders.{Exchanged, number-at, push_lower, near_from}
 use Rattle.rows.proofs.Shifts.{closed_spares}
-use Rattle.rows.proofs.Upto.{take-of_set}
+use Rattle.std.proofs.Math.Seq.{take-set-lt}
 
 -- The first n of the rows ws are now ys.
 pub record Fronted {X : Type 0} (n : ℕ) (ws ys zs : List X) : Type 0 where
@@ -35,15 +35,13 @@ module _ {P : Type 0} where
     push_part : take k (set xs len row) ≡ take len xs ++ row ∷ []
     push_part = ap (λ n. take n (set xs len row)) is ∙ take_more_set xs len row fits
 
-    pub pushed_lower : heaped (take len xs) ≡ true → (len < length (take k (set xs len row))) × Lower (number_at (take k (set xs len row))) (length (take k (set xs len row))) len
+    pub pushed_lower : heaped (take len xs) ≡ true → Lower (number_at (take k (set xs len row))) (length (take k (set xs len row))) len
     pushed_lower h =
         let short : length (take len xs) ≡ len = length-take-le len xs (omega arith) in
-        let long : length (take k (set xs len row)) ≡ len + 1 = length-take-le k (set xs len row) (omega (arith, length-set xs len row)) ∙ is in (
-          omega arith,
-          rw long (push_lower (number_at (take len xs)) (number_at (take k (set xs len row))) len (rw short at h)
-              (λ i q. number_same (take k (set xs len row)) (take len xs) i row (omega arith) (omega arith)
-              (ap (λ l. get_or l i row) push_part ∙ get_or_append_left (take len xs) (row ∷ []) row i (omega arith)))),
-        )
+        let long : length (take k (set xs len row)) ≡ len + 1 = length-take-le k (set xs len row) (omega (arith, length-set xs len row)) ∙ is in
+        rw long (push_lower (number_at (take len xs)) (number_at (take k (set xs len row))) len (rw short at h)
+        (λ i q. number_same (take k (set xs len row)) (take len xs) i row (omega arith) (omega arith)
+        (ap (λ l. get_or l i row) push_part ∙ get_or_append_left (take len xs) (row ∷ []) row i (omega arith))))
 
     pub pushed_shuffled : (ys : List (Row P)) → IsPermutation (take k (set xs len row)) ys → IsPermutation (row ∷ take len xs) ys
     pushed_shuffled ys moved =
@@ -68,8 +66,8 @@ module _ {P : Type 0} where
     exchanged_upto =
         let n = length-take-le len xs fits in
         IsPermutation-swap (take len xs) (take len zs) at (len - 1) (omega arith) (omega arith)
-        (ap (take len) (p.3 d) ∙ take-of_set len (set xs at (get_or xs (len - 1) d)) (len - 1) (get_or xs at d)
-        ∙ ap (λ l. set l (len - 1) (get_or xs at d)) (take-of_set len xs at (get_or xs (len - 1) d))
+        (ap (take len) (p.3 d) ∙ take-set-lt len (set xs at (get_or xs (len - 1) d)) (len - 1) (get_or xs at d) (omega arith)
+        ∙ ap (λ l. set l (len - 1) (get_or xs at d)) (take-set-lt len xs at (get_or xs (len - 1) d) lt)
         ∙ ap (λ y. set (set (take len xs) at y) (len - 1) (get_or xs at d)) (sym (get_or-take len xs (len - 1) d (omega arith)))
         ∙ ap (λ y. set (set (take len xs) at (get_or (take len xs) (len - 1) d)) (len - 1) y) (sym (get_or-take len xs at d lt))
         ∙ swap_is (take len xs) at (len - 1) d (omega arith) (omega arith))

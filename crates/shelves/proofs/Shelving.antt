@@ -41,7 +41,7 @@ module _ (bytes : List ℕ) where
   pairs_first [] = refl
   pairs_first (x ∷ rows) = refl
 
-  pub pair_sizes : (r : Row Held) → body_room * (r.part.place + 1) ≤ length bytes → r.part.size ≤ body_room → sizes_of (pair_for bytes r) ≡ sizes_for r
+  pub pair_sizes : (r : Row Held) → body_room * (r.part.place + 1) ≤ length bytes → r.part.size ≤ body_room → sizes_of (pair_for bytes r) ≡ sizes_for r.part
   pair_sizes r inside short = ap (λ n. record { count = r.part.count; length = n }) (length_front bytes r.part.place r.part.size inside short)
 
 -- a body that is written into a place of no row, and into its own row's place
@@ -117,7 +117,7 @@ row_absent s k e = pairs-row s.bytes k s.rows ∙ ap (option_map (pair_for s.byt
 pub found_fits : (s : Stock) → Racked s → (k : ℕ) (r : Row Held) → Some r ≡ row_of k s.rows → (body_room * (r.part.place + 1) ≤ length s.bytes) × (r.part.size ≤ body_room)
 found_fits s h k r e = let f = row_fits s.room k s.rows s.spares r (sym e) h.tidied in (omega (arith, f.0, h.sized), f.1)
 
-pub found_sizes : (s : Stock) → Racked s → (k : ℕ) (r : Row Held) → Some r ≡ row_of k s.rows → Some (sizes_for r) ≡ option_map sizes_of (row_of k (holding_of s).pairs)
+pub found_sizes : (s : Stock) → Racked s → (k : ℕ) (r : Row Held) → Some r ≡ row_of k s.rows → Some (sizes_for r.part) ≡ option_map sizes_of (row_of k (holding_of s).pairs)
 found_sizes s h k r e =
     let f = found_fits s h k r e in
     ap Some (sym (pair_sizes s.bytes r f.0 f.1)) ∙ sym (ap (option_map sizes_of) (row_found s k r e))

@@ -2,5 +2,3 @@ pub mod Racks
 pub mod Sounds
 pub mod Sifting
 pub mod Heaps
-pub mod Ordered
-pub mod HeapStocks

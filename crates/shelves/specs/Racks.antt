@@ -22,6 +22,12 @@ bytes_at bytes place = take body_room (drop (body_room * place) bytes)
 abbrev pub pair_for : List ℕ → Row Held → Row Packet
 pair_for bytes r = pair_of r.number r.part.count (take r.part.size (bytes_at bytes r.part.place))
 
+-- The rows of a shelf: those in use by number, the spare ones, and how many there are.
+pub record Contents : Type 0 where
+  pub rows : List (Row Held)
+  pub spares : List (Row Held)
+  pub room : ℕ
+
 -- What a shelf is made of: the rows in use by number, the spare ones, the bytes, and how many rows there are.
 pub record Stock : Type 0 where
   pub rows : List (Row Held)
@@ -29,11 +35,14 @@ pub record Stock : Type 0 where
   pub bytes : List ℕ
   pub room : ℕ
 
+abbrev pub stock_of : Contents → List ℕ → Stock
+stock_of c bytes = record { rows = c.rows; spares = c.spares; bytes = bytes; room = c.room }
+
 abbrev pub holding_of : Stock → Holding
 holding_of s = record { pairs = map (pair_for s.bytes) s.rows; places = s.room }
 
-abbrev pub sizes_for : Row Held → Sizes
-sizes_for r = record { count = r.part.count; length = r.part.size }
+abbrev pub sizes_for : Held → Sizes
+sizes_for h = record { count = h.count; length = h.size }
 
 abbrev pub free_place : Option (Row Held) → ℕ
 free_place None = 0

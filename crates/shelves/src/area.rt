@@ -8,31 +8,23 @@ ghost use Rattle.shelves.specs.Racks.{bytes_at};
 use base::limits::BODY_ROOM;
 use base::{write_at, zero_from};
 
-// The lent bytes. They stand in a struct of their own because one with a ghost field cannot lend them.
-#[derive(Drop)]
-pub(crate) struct Area<'a> {
-    pub(crate) bytes: &'a mut [u8],
+// Writes a body to the front of a place.
+pub(crate) fn store(bytes: &mut [u8], place: usize, body: &[u8])
+    requires short { length body.now ≤ body_room }
+    requires inside { body_room * (place + 1) ≤ length bytes.old }
+    ensures { bytes.new ≡ written_at bytes.old (body_room * place) body.now }
+{
+    let _ = write_at(bytes, BODY_ROOM * place, body);
 }
 
-impl Area<'_> {
-    // Writes a body to the front of a place.
-    pub(crate) fn store(&mut self, place: usize, body: &[u8])
-        requires short { length body.now ≤ body_room }
-        requires inside { body_room * (place + 1) ≤ length self.old.bytes.now }
-        ensures { self.new.bytes.now ≡ written_at self.old.bytes.now (body_room * place) body.now }
-    {
-        let _ = write_at(self.bytes, BODY_ROOM * place, body);
-    }
-
-    // Copies the front of a place, with zeros behind it.
-    pub(crate) fn load(&self, place: usize, size: usize, into: &mut [u8])
-        requires whole { length into.old ≡ body_room }
-        requires inside { body_room * (place + 1) ≤ length self.now.bytes.now }
-        requires short { size ≤ body_room }
-        ensures { into.new ≡ padded (take size (bytes_at self.now.bytes.now place)) }
-    {
-        let at = BODY_ROOM * place;
-        let _ = write_at(into, 0, &self.bytes[at..at + size]);
-        zero_from(into, size);
-    }
+// Copies the front of a place, with zeros behind it.
+pub(crate) fn load(bytes: &[u8], place: usize, size: usize, into: &mut [u8])
+    requires whole { length into.old ≡ body_room }
+    requires inside { body_room * (place + 1) ≤ length bytes.now }
+    requires short { size ≤ body_room }
+    ensures { into.new ≡ padded (take size (bytes_at bytes.now place)) }
+{
+    let at = BODY_ROOM * place;
+    let _ = write_at(into, 0, &bytes[at..at + size]);
+    zero_from(into, size);
 }

@@ -1,12 +1,20 @@
-// A binary min-heap of rows over lent memory.
+// A binary min-heap of held rows over lent memory.
+ghost use Rattle.std.specs.Prelude.{◌≡◌, ◌≤◌, true, length, take};
+ghost use Rattle.rows.specs.Order.{rises};
+ghost use Rattle.shelves.specs.Sifting.{sort_by, heaped};
+
+use crate::held::Held;
 use rows::Row;
 
 mod calls;
 mod sifts;
 
-// The first `len` of the lent rows are in use.
+// The first `len` of the lent rows are in use, have distinct numbers, and are in heap order.
 #[derive(Drop)]
-pub(crate) struct Heap<'a, P: Copy> {
-    pub(crate) rows: &'a mut [Row<P>],
-    pub(crate) len: usize,
+pub struct Heap<'a> {
+    rows: &'a mut [Row<Held>],
+    len: usize,
+    ghost fits: { len ≤ length rows.now },
+    ghost apart: { rises (sort_by (take len rows.now)) ≡ true },
+    ghost ordered: { heaped (take len rows.now) ≡ true },
 }

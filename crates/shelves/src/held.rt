@@ -1,4 +1,8 @@
 // A held row, and the memory that a shelf is lent.
+ghost use Rattle.std.specs.Prelude.{◌≡◌};
+ghost use Rattle.shelves.specs.Racks.{sizes_for};
+
+use parts::Sizes;
 
 mod looking;
 
@@ -12,4 +16,15 @@ pub struct Held {
     pub count: u16,
     pub size: u16,
     pub place: u8,
+}
+
+impl From<Held> for Sizes {
+    ghost from_gives = { λ held sizes. sizes ≡ sizes_for held };
+
+    fn from(held: Held) -> Sizes {
+        Sizes {
+            count: held.count,
+            length: usize::from(held.size),
+        }
+    }
 }

@@ -2,13 +2,11 @@
 #![tactic(auto)]
 
 mod area;
-pub mod heaped;
 mod heaping;
 mod held;
-pub mod ordered;
+mod ordered;
 mod rack;
-mod stock;
+pub mod shelf;
 
-pub use heaped::HeapShelf;
 pub use held::{Held, shelf_fits};
-pub use ordered::OrderedShelf;
+pub use shelf::{HeapShelf, LentShelf, OrderedShelf};

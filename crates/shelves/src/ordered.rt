@@ -1,24 +1,38 @@
-// A shelf whose rows stand in number order.
-ghost use Rattle.std.specs.Prelude.{◌≡◌, ◌*◌, ◌≤◌, true, ◌++◌, length};
-ghost use Rattle.base.specs.Limits.{body_room, max_places};
+// Rows in number order, as the rows of a shelf.
 ghost use Rattle.rows.specs.Meaning.{rows_of, spares_of, room_of};
-ghost use Rattle.rows.specs.Order.{rises};
-ghost use Rattle.shelves.specs.Racks.{tidy};
 
-use crate::area::Area;
 use crate::held::Held;
-use rows::OrderedList;
+use crate::rack::Rack;
+use rows::{OrderedList, Row};
 
-mod calls;
+impl Rack for OrderedList<'_, Held> {
+    ghost contents = { λ l. record { rows = rows_of l; spares = spares_of l; room = room_of l } };
 
-/// A shelf that keeps its rows in an ordered list.
-#[derive(Drop)]
-pub struct OrderedShelf<'a> {
-    list: OrderedList<'a, Held>,
-    area: Area<'a>,
-    ghost rising: { rises (rows_of list) ≡ true },
-    ghost tidied: { tidy (room_of list) (rows_of list ++ spares_of list) ≡ true },
-    ghost sized: { length area.bytes.now ≡ body_room * room_of list },
-    ghost some: { 1 ≤ room_of list },
-    ghost few: { room_of list ≤ max_places },
+    fn len(&self) -> usize {
+        OrderedList::len(self)
+    }
+
+    fn room(&self) -> usize {
+        OrderedList::room(self)
+    }
+
+    fn first(&self) -> Option<Row<Held>> {
+        OrderedList::first(self)
+    }
+
+    fn find(&self, number: u64) -> Option<Row<Held>> {
+        OrderedList::find(self, number)
+    }
+
+    fn spare(&self) -> Option<Row<Held>> {
+        OrderedList::spare(self)
+    }
+
+    fn insert(&mut self, row: Row<Held>) {
+        OrderedList::insert(self, row).unwrap();
+    }
+
+    fn remove(&mut self, number: u64) -> Option<Row<Held>> {
+        OrderedList::remove(self, number)
+    }
 }

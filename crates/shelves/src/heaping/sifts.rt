@@ -1,14 +1,14 @@
 // How rows move for one that is put into the heap or taken out of it.
-ghost use Rattle.std.specs.Prelude.{◌≡◌, ◌+◌, ◌/◌, ◌<◌, ◌≤◌, true, ◌∷◌, length, take, drop, slice_index_or};
+ghost use Rattle.std.specs.Prelude.{◌≡◌, ◌+◌, ◌-◌, ◌/◌, ◌<◌, ◌≤◌, true, ◌∷◌, length, take, drop, slice_index_or};
 ghost use Rattle.std.specs.List.Sorted.{IsPermutation};
 ghost use Rattle.shelves.specs.Sifting.{number_at, heaped, Lower, Higher, Near, Least};
 
-use super::Heap;
 use rows::Row;
 
 // Moves a row up until the one above it is not larger.
 fn sift_up<P: Copy>(rows: &mut [Row<P>], start: usize)
-    requires { (start < length rows.old) × (Lower (number_at rows.old) (length rows.old) start) }
+    requires inside { start < length rows.old }
+    requires lower { Lower (number_at rows.old) (length rows.old) start }
     ensures shuffled { IsPermutation rows.old rows.new }
     ensures heap { heaped rows.new ≡ true }
 {
@@ -68,41 +68,31 @@ fn settle<P: Copy>(rows: &mut [Row<P>], at: usize)
     }
 }
 
-impl<'a, P: Copy> Heap<'a, P> {
-    // Adds a row to the heap of the rows in use.
-    pub(super) fn push_row(&mut self, row: Row<P>)
-        requires { (self.old.len < length self.old.rows.now) × (heaped (take self.old.len self.old.rows.now) ≡ true) }
-        ensures shuffled { IsPermutation (row ∷ take self.old.len self.old.rows.now) (take self.new.len self.new.rows.now) }
-        ensures heap { heaped (take self.new.len self.new.rows.now) ≡ true }
-        ensures spares { drop self.new.len self.new.rows.now ≡ drop (self.old.len + 1) self.old.rows.now }
-        ensures len { self.new.len ≡ self.old.len + 1 }
-        ensures room { length self.new.rows.now ≡ length self.old.rows.now }
-    {
-        let len = self.len;
-        self.rows[len] = row;
-        let part = &mut self.rows[0..len + 1];
-        sift_up(part, len);
-        self.len += 1;
-    }
+// Adds a row to the heap of the first `len` rows.
+pub(super) fn push_row<P: Copy>(rows: &mut [Row<P>], len: usize, row: Row<P>)
+    requires free { len < length rows.old }
+    requires heap { heaped (take len rows.old) ≡ true }
+    ensures shuffled { IsPermutation (row ∷ take len rows.old) (take (len + 1) rows.new) }
+    ensures heap { heaped (take (len + 1) rows.new) ≡ true }
+    ensures spares { drop (len + 1) rows.new ≡ drop (len + 1) rows.old }
+{
+    rows[len] = row;
+    sift_up(&mut rows[..=len], len);
+}
 
-    // Takes a row out of the heap of the rows in use; it becomes the first spare one.
-    pub(super) fn pull_row(&mut self, at: usize) -> Row<P>
-        requires inside { at < self.old.len }
-        requires fits { self.old.len ≤ length self.old.rows.now }
-        requires heap { heaped (take self.old.len self.old.rows.now) ≡ true }
-        ensures row { result ≡ slice_index_or self.old.rows.now at result }
-        ensures shuffled { IsPermutation (take self.old.len self.old.rows.now) (result ∷ take self.new.len self.new.rows.now) }
-        ensures heap { heaped (take self.new.len self.new.rows.now) ≡ true }
-        ensures spares { drop self.new.len self.new.rows.now ≡ result ∷ drop self.old.len self.old.rows.now }
-        ensures len { self.new.len + 1 ≡ self.old.len }
-        ensures room { length self.new.rows.now ≡ length self.old.rows.now }
-    {
-        let last = self.len - 1;
-        let row = self.rows[at];
-        self.rows.swap(at, last);
-        let part = &mut self.rows[0..last];
-        settle(part, at);
-        self.len = last;
-        row
-    }
+// Takes a row out of the heap of the first `len` rows; it becomes the first one behind them.
+pub(super) fn pull_row<P: Copy>(rows: &mut [Row<P>], len: usize, at: usize) -> Row<P>
+    requires inside { at < len }
+    requires fits { len ≤ length rows.old }
+    requires heap { heaped (take len rows.old) ≡ true }
+    ensures row { result ≡ slice_index_or rows.old at result }
+    ensures shuffled { IsPermutation (take len rows.old) (result ∷ take (len - 1) rows.new) }
+    ensures heap { heaped (take (len - 1) rows.new) ≡ true }
+    ensures spares { drop (len - 1) rows.new ≡ result ∷ drop len rows.old }
+{
+    let last = len - 1;
+    let row = rows[at];
+    rows.swap(at, last);
+    settle(&mut rows[..last], at);
+    row
 }

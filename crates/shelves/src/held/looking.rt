@@ -13,10 +13,7 @@ pub fn shelf_fits(rows: usize, bytes: usize) -> Result<(), Refusal>
     ensures { result ≡ shelf_fits rows bytes }
 {
     if rows < 1 || rows > MAX_PLACES || bytes != BODY_ROOM * rows {
-        return Err(Refusal {
-            cause: Cause::PartSize,
-            value: 0,
-        });
+        return Err(Refusal::new(Cause::PartSize, 0));
     }
     Ok(())
 }
@@ -26,6 +23,7 @@ pub(crate) fn number_places(rows: &mut [Row<Held>])
     requires { length rows.old ≤ max_places }
     ensures { tidy (length rows.new) rows.new ≡ true }
 {
+    // By an index: what `iter_mut` lends comes back with nothing known of it but its length.
     for i in 0..rows.len() {
         rows[i] = Row {
             number: 0,

@@ -1,25 +1,16 @@
-use Rattle.std.proofs.Common.{◌≡◌, ℕ, get_or, ap, ◌∙◌, arith, rules}
-use Rattle.std.proofs.lemmas.List.{get_or_default, length-take-le}
+use Rattle.std.proofs.Common.{eqb, ap, ◌∙◌, rules, tests}
+use Rattle.std.proofs.lemmas.Iterator.{YieldsList-from_slice}
+use Rattle.std.proofs.lemmas.Iterator.Adapters.{position_from-zero}
+use Rattle.std.proofs.lemmas.Iterator.Search.{position_from_yields_List}
+use Rattle.rows.specs.Order.{index_of}
 use Rattle.rows.specs.declared.row.Row.{Row}
-use Rattle.rows.proofs.Rises.{index_used, none_used}
+use Rattle.shelves.specs.declared.held.Held.{Held}
+use Rattle.shelves.proofs.Counting.{position-index}
 use Rattle.shelves.proofs.heaping.Heap.position.Goals as goal
 
-pub returns-then-rows-i : goal.returns-then-rows-i
-returns-then-rows-i g c =
-    let rows = c.args.self.now.rows.now in
-    let n = length-take-le c.args.self.now.len rows c.requires.fits in
-    let x = c.index-rows-i.result in
-    let taken : ◌≡◌ {A = ℕ} (get_or rows c.rows.i x).number c.args.number = c.if-rows-i.true in
-    record {
-      index = index_used rows c.args.self.now.len c.args.number c.rows.i (omega arith) c.rows.invariant
-          (λ d. ap (λ (r : Row g.row.P.Denot). r.number) (get_or_default rows c.rows.i d x (search rules)) ∙ taken);
-      within = c.rows-test.true;
-    }
-
-pub returns : goal.returns
-returns g c =
-    let n = length-take-le c.args.self.now.len c.args.self.now.rows.now c.requires.fits in
-    record {
-      index = none_used c.args.self.now.rows.now c.args.self.now.len c.args.number (λ j d h e. c.rows.invariant j d (omega arith) e);
-      within = tt;
-    }
+pub returns-clause-index : goal.returns-clause-index
+returns-clause-index c =
+    let h = c.args.self.now in
+    position_from_yields_List (λ (x : Row Held). eqb x.number c.args.number) _ _ _ c.position.ensures.ran (YieldsList-from_slice c.used.result.now (cc)) (λ x b q k. search (rules, tests))
+    ∙ position_from-zero (λ (x : Row Held). eqb x.number c.args.number) c.used.result.now
+    ∙ (position-index c.args.number c.used.result.now ∙ ap (λ l. index_of c.args.number l) c.used.ensures)

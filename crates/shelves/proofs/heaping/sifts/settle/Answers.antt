@@ -8,11 +8,12 @@ pub sift_up-requires : goal.sift_up-requires
 sift_up-requires g c =
     let xs = c.args.rows.now in
     let at = c.args.at in
-    let inside = c.if-at-rows.true in (
-      inside,
-      near_lower (number_at xs) (length xs) at c.requires (omega arith)
-          (omega (arith, number-at xs at c.index-rows-at.result inside, number-at xs (above at) c.index-rows-at-then-at-rows.result (omega arith))),
-    )
+    let inside = c.if-at-rows.true in
+    record {
+      inside = inside;
+      lower = near_lower (number_at xs) (length xs) at c.requires (omega arith)
+          (omega (arith, number-at xs at c.index-rows-at.result inside, number-at xs (above at) c.index-rows-at-then-at-rows.result (omega arith)));
+    }
 
 pub sift_down-requires : goal.sift_down-requires
 sift_down-requires g c =
