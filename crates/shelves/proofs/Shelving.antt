@@ -10,7 +10,7 @@ use Rattle.base.specs.declared.refusal.Refusal.{Refusal}
 use Rattle.parts.specs.Holdings.{Holding, Packet, pair_of, sizes_of, hold_answer, holds, take_leaves}
 use Rattle.rows.specs.Order.{row_of, insert_by, remove_by}
 use Rattle.rows.specs.declared.row.Row.{Row}
-use Rattle.shelves.specs.Racks.{bytes_at, pair_for, sizes_for, sum_by, has_place, free_place, Stock, Racked, Putting, holding_of}
+use Rattle.shelves.specs.Racks.{bytes_at, pair_for, sizes_for, sum_by, has_place, free_place, Stock, Racked, holding_of}
 use Rattle.shelves.specs.Sounds.{length_pairs}
 use Rattle.shelves.specs.declared.held.Held.{Held}
 use Rattle.shelves.proofs.Places.{body-written, length_front}
@@ -125,6 +125,12 @@ found_sizes s h k r e =
 -- what a row that was taken out leaves
 pub taken : (s t : Stock) (k : ℕ) → t.rows ≡ remove_by k s.rows → t.bytes ≡ s.bytes → t.room ≡ s.room → holding_of t ≡ take_leaves (holding_of s) k
 taken s t k er eb em = holding-is t (remove_by k s.rows) s.bytes s.room er eb em ∙ ap (λ l. record { pairs = l; places = s.room }) (pairs-remove s.bytes k s.rows)
+
+-- What is known where a packet can be put: its body fits a place, its number is new, and a row is spare.
+pub record Putting (s : Stock) (first : ℕ) (body : List ℕ) (spare : Row Held) : Type 0 where
+  pub short : length body ≤ body_room
+  pub absent : is_some (row_of first s.rows) ≡ false
+  pub next : Some spare ≡ slice_get s.spares 0
 
 module _ (s : Stock) (first count : ℕ) (body : List ℕ) (spare : Row Held) (racked : Racked s) (h : Putting s first body spare) where
   -- the row that the packet gets

@@ -1,12 +1,11 @@
 -- The rows and bytes of a shelf: each row has a place of its own in the bytes, and stands for a pair.
-use Rattle.std.specs.Prelude.{◌≡◌, ℕ, ◌+◌, ◌*◌, ◌≤◌, Bool, true, false, cond, ◌&&◌, List, [], ◌∷◌, ◌++◌, map, length, take, drop, is_some, Some, None, Ok, Err, Option, Result, ◌==◌, nat_le, nat_lt}
-use Rattle.std.specs.List.{slice_get}
+use Rattle.std.specs.Prelude.{◌≡◌, ℕ, ◌+◌, ◌*◌, ◌≤◌, Bool, true, cond, ◌&&◌, List, [], ◌∷◌, ◌++◌, map, length, take, drop, Some, None, Ok, Err, Option, Result, ◌==◌, nat_le, nat_lt}
 use Rattle.base.specs.Limits.{body_room, max_places}
 use Rattle.base.specs.declared.refusal.Cause.TheVariants.{PartSize}
 use Rattle.base.specs.declared.refusal.Refusal.{Refusal}
 use Rattle.parts.specs.Holdings.{Packet, Holding, pair_of}
 use Rattle.parts.specs.declared.shelf.Sizes.{Sizes}
-use Rattle.rows.specs.Order.{rises, row_of}
+use Rattle.rows.specs.Order.{rises}
 use Rattle.rows.specs.declared.row.Row.{Row}
 use Rattle.shelves.specs.declared.held.Held.{Held}
 
@@ -64,12 +63,6 @@ misfit room r = cond (nat_lt r.part.place room && nat_le r.part.size body_room) 
 abbrev pub tidy : ℕ → List (Row Held) → Bool
 tidy room [] = true
 tidy room (r ∷ rs) = misfit room r == 0 && (sum_by (has_place r.part.place) rs == 0 && tidy room rs)
-
--- What is known where a packet can be put: its body fits a place, its number is new, and a row is spare.
-pub record Putting (s : Stock) (first : ℕ) (body : List ℕ) (spare : Row Held) : Type 0 where
-  pub short : length body ≤ body_room
-  pub absent : is_some (row_of first s.rows) ≡ false
-  pub next : Some spare ≡ slice_get s.spares 0
 
 -- What holds of a shelf at all times.
 pub record Racked (s : Stock) : Type 0 where

@@ -1,4 +1,4 @@
--- What a user may rely on, of the pairs that rows stand for.
+-- What a user may rely on, of the pairs that rows stand for. The proof stands here, since the law of an impl can name no other place.
 use Rattle.std.specs.Prelude.{◌≡◌, ℕ, suc, ◌*◌, true, ◌&&◌, List, [], ◌∷◌, map, length, take, drop, nat_lt, refl}
 use Rattle.std.proofs.Common.{ap, ◌∙◌, arith}
 use Rattle.std.proofs.lemmas.List.{length-take}

@@ -1,7 +1,6 @@
 // A shelf over lent memory: rows, and a place of 4,096 bytes for the body of each.
 ghost use Rattle.std.specs.Prelude.{◌≡◌, [], length, Ok};
-ghost use Rattle.parts.specs.Holdings.{pair_of, hold_answer, holds};
-ghost use Rattle.shelves.specs.Racks.{Racked, Putting, shelf_fits, holding_of, stock_of};
+ghost use Rattle.shelves.specs.Racks.{Racked, shelf_fits, holding_of, stock_of};
 ghost use Rattle.shelves.specs.Sounds.{racked_sound};
 
 use crate::area::{load, store};
@@ -27,6 +26,7 @@ pub type OrderedShelf<'a> = LentShelf<'a, OrderedList<'a, Held>>;
 /// A shelf that keeps its rows in a binary min-heap.
 pub type HeapShelf<'a> = LentShelf<'a, Heap<'a>>;
 
+// A `new` for each: one for all would need the lifetime of the rows in the trait `Rack`, which the check does not cover yet.
 impl<'a> OrderedShelf<'a> {
     /// An empty shelf over lent memory that `shelf_fits` has looked at, whatever it holds.
     pub fn new(rows: &'a mut [Row<Held>], bytes: &'a mut [u8]) -> OrderedShelf<'a>
@@ -52,24 +52,6 @@ impl<'a> HeapShelf<'a> {
             rack: Heap::new(rows),
             bytes,
         }
-    }
-}
-
-impl<R: Rack> LentShelf<'_, R> {
-    // Puts a packet into the place of a spare row.
-    fn place(&mut self, first: u64, count: u16, body: &[u8], spare: Row<Held>)
-        requires { Putting (stock_of (R.Rack.contents self.old.rack) self.old.bytes.now) first body.now spare }
-        ensures allowed { hold_answer (holding_of (stock_of (R.Rack.contents self.old.rack) self.old.bytes.now)) (pair_of first count body.now) ≡ Ok tt }
-        ensures after { holding_of (stock_of (R.Rack.contents self.new.rack) self.new.bytes.now) ≡ holds (holding_of (stock_of (R.Rack.contents self.old.rack) self.old.bytes.now)) (pair_of first count body.now) }
-    {
-        let place = spare.part.place;
-        let size = body.len() as u16;
-        let part = Held { count, size, place };
-        self.rack.insert(Row {
-            number: first,
-            part,
-        });
-        store(self.bytes, usize::from(place), body);
     }
 }
 
@@ -100,7 +82,14 @@ impl<R: Rack> Shelf for LentShelf<'_, R> {
         let Some(spare) = self.rack.spare() else {
             return Err(Refusal::new(Cause::ShelfFull, first));
         };
-        self.place(first, count, body, spare);
+        let place = spare.part.place;
+        let size = body.len() as u16;
+        let part = Held { count, size, place };
+        self.rack.insert(Row {
+            number: first,
+            part,
+        });
+        store(self.bytes, usize::from(place), body);
         Ok(())
     }
 

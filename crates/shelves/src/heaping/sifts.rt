@@ -5,7 +5,7 @@ ghost use Rattle.shelves.specs.Sifting.{number_at, heaped, Lower, Higher, Near, 
 
 use rows::Row;
 
-// Moves a row up until the one above it is not larger.
+// Moves a row up until the one above it is not larger. The place goes by halves, so no iterator counts it.
 fn sift_up<P: Copy>(rows: &mut [Row<P>], start: usize)
     requires inside { start < length rows.old }
     requires lower { Lower (number_at rows.old) (length rows.old) start }
@@ -38,7 +38,7 @@ fn smaller_below<P: Copy>(rows: &[Row<P>], at: usize) -> usize
     }
 }
 
-// Moves a row down until those below it are not smaller.
+// Moves a row down until those below it are not smaller, by a place as in `sift_up`.
 fn sift_down<P: Copy>(rows: &mut [Row<P>], start: usize)
     requires { Higher (number_at rows.old) (length rows.old) start }
     ensures shuffled { IsPermutation rows.old rows.new }

@@ -1,7 +1,10 @@
-use Rattle.std.proofs.Common.{is_some, Err, sym, ap, ◌∙◌, arith}
+use Rattle.std.proofs.Common.{is_some, Err, sym, refl, ap, ◌∙◌, arith}
 use Rattle.parts.specs.Holdings.{pair_of}
-use Rattle.shelves.specs.Racks.{holding_of, stock_of}
-use Rattle.shelves.proofs.Shelving.{hold_present, hold_full, hold_refused, none_first}
+use Rattle.rows.specs.Order.{row_of}
+use Rattle.rows.proofs.Rises.{none_of}
+use Rattle.shelves.specs.Racks.{free_place, holding_of, stock_of}
+use Rattle.shelves.proofs.Racking.{racked-put}
+use Rattle.shelves.proofs.Shelving.{Putting, hold_present, hold_full, hold_refused, none_first, some_first, put_inside, put_answer, put_after}
 use Rattle.shelves.proofs.shelf.LentShelfShelf.put.Goals as goal
 
 pub returns-then-is_some : goal.returns-then-is_some
@@ -19,13 +22,55 @@ returns-in_default g c =
     (omega (arith, none_first s.spares c.in_default.ensures, c.args.self.now.racked.whole)) in
     record { answer = ap Err c.new-in_default.ensures ∙ sym is; after = hold_refused (holding_of s) (pair_of c.args.first c.args.count c.args.body.now) _ is }
 
-pub place-requires : goal.place-requires
-place-requires g c =
-    record {
+pub insert-requires : goal.insert-requires
+insert-requires g c =
+    let s = stock_of (g.R.Rack.contents c.args.self.now.rack) c.args.self.now.bytes.now in
+    let h : Putting s c.args.first c.args.body.now c.in-Some.spare = record {
       short = c.if-body-gt-BODY_ROOM.false;
       absent = ap is_some (sym c.find.ensures) ∙ sym c.is_some.ensures ∙ c.if-is_some.false;
       next = c.in-Some.ensures;
+    } in
+    record { absent = none_of (row_of c.args.first s.rows) h.absent; free = some_first s.spares c.in-Some.spare h.next }
+
+pub store-requires : goal.store-requires
+store-requires g c =
+    let s = stock_of (g.R.Rack.contents c.args.self.now.rack) c.args.self.now.bytes.now in
+    let h : Putting s c.args.first c.args.body.now c.in-Some.spare = record {
+      short = c.if-body-gt-BODY_ROOM.false;
+      absent = ap is_some (sym c.find.ensures) ∙ sym c.is_some.ensures ∙ c.if-is_some.false;
+      next = c.in-Some.ensures;
+    } in
+    record {
+      short = h.short;
+      inside = rw c.from.ensures (put_inside s c.args.first c.args.count c.args.body.now c.in-Some.spare c.args.self.now.racked h);
+    }
+
+pub invariant_of-self : goal.invariant_of-self
+invariant_of-self g c =
+    let s = stock_of (g.R.Rack.contents c.args.self.now.rack) c.args.self.now.bytes.now in
+    let h : Putting s c.args.first c.args.body.now c.in-Some.spare = record {
+      short = c.if-body-gt-BODY_ROOM.false;
+      absent = ap is_some (sym c.find.ensures) ∙ sym c.is_some.ensures ∙ c.if-is_some.false;
+      next = c.in-Some.ensures;
+    } in
+    let e = c.insert.ensures in
+    record {
+      racked = racked-put s (stock_of (g.R.Rack.contents c.insert.new.self) s.bytes) c.args.self.now.racked e.room refl
+          _ (none_of (row_of c.args.first s.rows) h.absent) (some_first s.spares c.in-Some.spare h.next)
+          (ap free_place h.next) h.short e.rows e.spares;
     }
 
 pub returns : goal.returns
-returns g c = record { answer = sym c.place.ensures.allowed; after = c.place.ensures.after }
+returns g c =
+    let s = stock_of (g.R.Rack.contents c.args.self.now.rack) c.args.self.now.bytes.now in
+    let h : Putting s c.args.first c.args.body.now c.in-Some.spare = record {
+      short = c.if-body-gt-BODY_ROOM.false;
+      absent = ap is_some (sym c.find.ensures) ∙ sym c.is_some.ensures ∙ c.if-is_some.false;
+      next = c.in-Some.ensures;
+    } in
+    let e = c.insert.ensures in
+    record {
+      answer = sym (put_answer s c.args.first c.args.count c.args.body.now c.in-Some.spare c.args.self.now.racked h);
+      after = put_after s c.args.first c.args.count c.args.body.now c.in-Some.spare c.args.self.now.racked h
+          (stock_of (g.R.Rack.contents c.insert.new.self) c.store.new.bytes) e.rows (rw c.from.ensures at c.store.ensures) e.room;
+    }
