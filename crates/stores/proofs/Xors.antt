@@ -6,9 +6,9 @@ use Rattle.parts.specs.Coders.{Inverse}
 use Rattle.stores.specs.Xor.{xor_at, xored, length-xored}
 
 -- a list with these bytes is the coded body
-pub xored-by : (token body coded : List ℕ) → length coded ≡ length body → ((k : ℕ) → k < length body → get_or coded k 0 ≡ xor_at token body k) → coded ≡ xored token body
+pub xored_by : (token body coded : List ℕ) → length coded ≡ length body → ((k : ℕ) → k < length body → get_or coded k 0 ≡ xor_at token body k) → coded ≡ xored token body
 unfolding xored
-xored-by token body coded same bytes = fill_by_all (xor_at token body) coded (length body) 0 same bytes
+xored_by token body coded same bytes = fill_by_all (xor_at token body) coded (length body) 0 same bytes
 
 slice_index-xored : (token body : List ℕ) (k : ℕ) → k < length body → get_or (xored token body) k 0 ≡ xor_at token body k
 unfolding xored
@@ -19,7 +19,7 @@ xor_twice a b = xor_assoc a b b ∙ ap (bit_xor a) (xor_self b) ∙ xor_zero_r a
 
 xored-twice : (token body : List ℕ) → xored token (xored token body) ≡ body
 xored-twice token body =
-    sym (xored-by token (xored token body) body (sym (length-xored token body))
+    sym (xored_by token (xored token body) body (sym (length-xored token body))
     (λ k h. let within : k < length body = omega (arith, length-xored token body) in
     sym (ap (λ x. bit_xor x (get_or token (k % length token) 0)) (slice_index-xored token body k within) ∙ xor_twice (get_or body k 0) (get_or token (k % length token) 0))))
 

@@ -1,13 +1,13 @@
 -- The token of a coder.
-use Rattle.std.specs.Prelude.{◌≡◌, ℕ, ◌<◌, ◌≤◌, List, length, take, Ok, Err, Result}
+use Rattle.std.specs.Prelude.{◌≡◌, ℕ, ◌<◌, ◌≤◌, List, length, Ok, Err, Result}
 use Rattle.base.specs.Limits.{max_token}
 use Rattle.base.specs.declared.refusal.Cause.TheVariants.{PartSize}
 use Rattle.base.specs.declared.refusal.Refusal.{Refusal}
 use Rattle.stores.specs.declared.token.TokenCoder.{TokenCoder}
 
--- The bytes in use.
+-- The bytes of the token.
 abbrev pub token_of : TokenCoder → List ℕ
-token_of c = take c.len c.bytes
+token_of c = c.token.items
 
 -- A token has 1 to 64 bytes.
 abbrev pub Allowed : List ℕ → Type 0

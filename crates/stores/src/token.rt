@@ -1,7 +1,9 @@
 // The coder of a channel that has a token.
 ghost use Rattle.std.specs.Prelude.{◌<◌, ◌≤◌};
+ghost use Rattle.arrayvec.specs.ArrayVec.{array_vec_len};
 ghost use Rattle.base.specs.Limits.{max_token};
 
+use arrayvec::ArrayVec;
 use base::limits::MAX_TOKEN;
 
 mod coding;
@@ -10,8 +12,7 @@ mod coding;
 /// each byte of the body is XORed with a byte of the token, in order, and after the token's last byte comes its first again.
 #[derive(Drop)]
 pub struct TokenCoder {
-    bytes: [u8; MAX_TOKEN],
-    len: usize,
-    ghost some: { 0 < len },
-    ghost fits: { len ≤ max_token },
+    token: ArrayVec<u8, MAX_TOKEN>,
+    ghost some: { 0 < array_vec_len token },
+    ghost fits: { array_vec_len token ≤ max_token },
 }

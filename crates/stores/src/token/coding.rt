@@ -4,11 +4,12 @@ ghost use Rattle.stores.specs.Xor.{xored, xored-opening};
 ghost use Rattle.stores.specs.Tokens.{token_of, Made};
 
 use super::TokenCoder;
-use base::limits::MAX_TOKEN;
+use arrayvec::ArrayVec;
 use base::{Cause, Refusal};
 use parts::{OpeningCoder, SealingCoder};
 
 // XORs a body with a token that has at least one byte.
+#[tactic(auto, using(crate::proofs::Xors::xored_by))]
 fn xor(token: &[u8], body: &mut [u8])
     requires { 0 < length token.now }
     ensures { body.new ≡ xored token.now body.old }
@@ -23,25 +24,10 @@ impl TokenCoder {
     pub fn new(token: &[u8]) -> Result<TokenCoder, Refusal>
         ensures { Made token.now result }
     {
-        let len = token.len();
-        if len == 0 || len > MAX_TOKEN {
-            return Err(Refusal {
-                cause: Cause::PartSize,
-                value: 0,
-            });
+        match ArrayVec::try_from(token) {
+            Ok(token) if !token.is_empty() => Ok(TokenCoder { token }),
+            _ => Err(Refusal::new(Cause::PartSize, 0)),
         }
-        let mut bytes = [0; MAX_TOKEN];
-        bytes[..len].copy_from_slice(token);
-        Ok(TokenCoder { bytes, len })
-    }
-
-    // The bytes of the token.
-    fn token(&self) -> &[u8]
-        ensures value { result.now ≡ token_of self.now }
-        ensures some { 0 < length result.now }
-    {
-        let len = self.len;
-        &self.bytes[..len]
     }
 }
 
@@ -57,7 +43,7 @@ impl OpeningCoder for TokenCoder {
     }
 
     fn open(&self, _number: u64, body: &mut [u8]) {
-        xor(self.token(), body);
+        xor(self.token.as_slice(), body);
     }
 }
 
