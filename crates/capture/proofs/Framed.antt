@@ -1,12 +1,11 @@
 -- The records of a capture that was written read back.
-use Rattle.std.proofs.Common.{◌≡◌, ℕ, zero, suc, ◌+◌, ◌^◌, ◌<◌, ◌≤◌, true, cond, ◌&&◌, leb, List, [], ◌∷◌, ◌++◌, length, take, drop, Some, None, Option, refl, ap, ◌∙◌, arith, length-append}
+use Rattle.std.proofs.Common.{◌≡◌, ℕ, zero, suc, ◌+◌, ◌^◌, ◌<◌, ◌≤◌, true, List, [], ◌∷◌, ◌++◌, length, take, drop, Some, None, refl, ap, ◌∙◌, arith, length-append}
 use Rattle.std.proofs.lemmas.List.{take_at, drop_at}
-use Rattle.std.proofs.lemmas.Bool.Decides.{nat_tests}
 use Rattle.base.specs.Fields.{be, be_bytes}
 use Rattle.base.proofs.Fields.{be-be_bytes}
 use Rattle.capture.specs.Framing.{framed, framed_all, capture_for, AllFramable, ReadsBack}
-use Rattle.capture.specs.Records.{Record, datagram, judge, malformed, nothing, last, one, datagram_in, judge_in, next_in, records_then, records_from, Contents, contents_of}
-use Rattle.capture.proofs.Nexts.{first-test, second_test, fits-test, both_test}
+use Rattle.capture.specs.Records.{Record, datagram, judge, malformed, nothing, last, one, datagram_in, judge_in, next_in, records_then, records_from, contents_of}
+use Rattle.capture.proofs.Nexts.{first-test, second_test, fits-test, both_test, header-test}
 
 -- a framed record, and what follows it
 next-datagram : (d rest : List ℕ) → length d < 2 ^ 16 → next_in (framed (datagram d) ++ rest) ≡ one (datagram d) rest
@@ -41,9 +40,6 @@ records-back (judge k ∷ rs) (suc most) f h =
     ∙ ap (λ l. judge k ∷ l) (records-back rs most f.1 (omega (arith, length-append (framed (judge k)) (framed_all rs))))
 records-back (malformed ∷ rs) (suc most) f h = absurd f.0
 
-header-test : (l : ℕ) (x y : Option Contents) → l ≤ 65536 → 15 ≤ l → cond (leb l 65536 && (leb 15 l && true)) x y ≡ x
-header-test l x y h k = grind (arith, nat_tests)
-
 contents-back : (channel start : ℕ) (records : List Record) → channel < 2 ^ 16 → start < 2 ^ 64 → length (capture_for channel start records) ≤ 65536
     → contents_of (capture_for channel start records) ≡ Some (record { channel = channel; start = start; records = framed_all records })
 contents-back channel start records c s h =
@@ -51,7 +47,7 @@ contents-back channel start records c s h =
     let all = framed_all records in
     let channels : be 2 xs 5 ≡ channel = be-be_bytes 2 channel (be_bytes 8 start ++ all) (omega arith) in
     let starts : be 8 xs 7 ≡ start = be-be_bytes 8 start all (omega arith) in
-    header-test (length xs) (Some (record { channel = be 2 xs 5; start = be 8 xs 7; records = all })) None h (omega arith)
+    header-test (length xs) true (Some (record { channel = be 2 xs 5; start = be 8 xs 7; records = all })) None h (omega arith) refl
     ∙ ap (λ n. Some (record { channel = n; start = be 8 xs 7; records = all })) channels
     ∙ ap (λ n. Some (record { channel = channel; start = n; records = all })) starts
 

@@ -1,5 +1,5 @@
 pub mod Framed
 pub mod Nexts
 pub mod Rooms
-pub mod Turns
+pub mod Taken
 pub mod Written

@@ -1,10 +1,12 @@
 -- The capture format: a header of 15 bytes, then records.
-use Rattle.std.specs.Prelude.{◌≡◌, ℕ, zero, suc, ◌+◌, Bool, cond, ◌&&◌, List, [], ◌∷◌, length, take, drop, Some, None, Option, ◌==◌, nat_le, slice_index}
+use Rattle.std.specs.Prelude.{◌≡◌, ℕ, zero, suc, ◌+◌, Bool, cond, ◌&&◌, List, [], ◌∷◌, length, take, drop, Some, None, Ok, Err, Option, Result, ◌==◌, nat_le, slice_index}
+use Rattle.std.specs.Borrow.{Bor}
 use Rattle.base.specs.Fields.{be}
 use Rattle.base.specs.Limits.{max_capture}
 use Rattle.capture.specs.declared.record.Capture.{Capture}
-use Rattle.capture.specs.declared.record.Next.{Next}
-use Rattle.capture.specs.declared.record.Next.TheVariants.{End, Malformed, Datagram, Judge}
+use Rattle.capture.specs.declared.record.Malformed.{Malformed}
+use Rattle.capture.specs.declared.record.Record.{Record as RecordRead}
+use Rattle.capture.specs.declared.record.Record.TheVariants.{Datagram, Judge}
 
 -- The channel, the start and the bytes of the records: the mark is MDC, the version 1.
 pub record Contents : Type 0 where
@@ -59,19 +61,28 @@ records_from (suc most) xs = records_then (records_from most) (next_in xs)
 abbrev pub records_of : List ℕ → List Record
 records_of xs = records_from (length xs + 1) xs
 
+-- The bytes that a record takes; a malformed one has a byte at least.
+abbrev pub size_of : Record → ℕ
+size_of (datagram d) = 3 + length d
+size_of (judge k) = 9
+size_of malformed = 1
+
 -- What the code answers.
-abbrev pub found_in : Next → Found
-found_in End = nothing
-found_in Malformed = last malformed
-found_in (Datagram bytes rest) = one (datagram bytes.now) rest.now
-found_in (Judge number rest) = one (judge number) rest.now
+abbrev pub record_in : Result RecordRead Malformed → Record
+record_in (Ok (Datagram bytes)) = datagram bytes.now
+record_in (Ok (Judge number)) = judge number
+record_in (Err e) = malformed
+
+abbrev pub found_in : Result (Option (RecordRead × Bor (List ℕ))) Malformed → Found
+found_in (Ok None) = nothing
+found_in (Ok (Some (r, rest))) = one (record_in (Ok r)) rest.now
+found_in (Err e) = last malformed
 
 -- The bytes that a record takes of n bytes.
-abbrev pub Takes : ℕ → Next → Type 0
-Takes n End = Unit {0}
-Takes n Malformed = Unit {0}
-Takes n (Datagram bytes rest) = 3 + length bytes.now + length rest.now ≡ n
-Takes n (Judge number rest) = 9 + length rest.now ≡ n
+abbrev pub Takes : ℕ → Result (Option (RecordRead × Bor (List ℕ))) Malformed → Type 0
+Takes n (Ok None) = Unit {0}
+Takes n (Ok (Some (r, rest))) = size_of (record_in (Ok r)) + length rest.now ≡ n
+Takes n (Err e) = Unit {0}
 
 abbrev pub contents_in : Option Capture → Option Contents
 contents_in None = None

@@ -4,15 +4,15 @@ ghost use Rattle.std.specs.List.{concat};
 ghost use Rattle.page.specs.Text.{sheet, wrote_all};
 ghost use Rattle.wire.specs.Messages.{split_in, lengths_in, messages_in};
 ghost use Rattle.wire.specs.Reading.{reading_of};
-ghost use Rattle.capture.specs.Inspecting.{is_hidden, looked_into, plain_line, data_line, read_line, lines_from, inspect_pieces, inspect_room, inspect_text};
-ghost use Rattle.capture.specs.Records.{records_of};
+ghost use Rattle.capture.specs.Inspecting.{is_hidden, looked_into, plain_line, data_line, read_line, record_line, lines_from, inspect_pieces, inspect_room, inspect_text};
+ghost use Rattle.capture.specs.Records.{record_in, size_of, records_of};
 
 use crate::lines::{
-    push_heartbeat, push_judge, push_lengths, push_malformed, push_packet, push_refusal,
-    push_stream_end, push_stream_heartbeat,
+    Place, push_heartbeat, push_judge, push_lengths, push_malformed, push_packet, push_refusal,
+    push_stream,
 };
-use crate::reader::{next_record, open_capture};
-use crate::record::Next;
+use crate::reader::{Records, open_capture};
+use crate::record::{Capture, Malformed, Record};
 use base::Refusal;
 use page::Page;
 use wire::{Messages, Packet, Reading};
@@ -30,17 +30,17 @@ fn messages_of(packet: Packet, plain: &[u8]) -> Result<Messages<'_>, Refusal>
     wire::split(plain, packet.count)
 }
 
-fn push_plain(page: &mut Page, index: u64, channel: u16, packet: Packet, plain: &[u8])
-    ensures text { sheet page.new ≡ wrote_all (sheet page.old) (plain_line index channel packet (looked_into packet plain.now)) }
-    ensures short { length (concat (plain_line index channel packet (looked_into packet plain.now))) ≤ 400 + 6 * length plain.now }
+fn push_plain(page: &mut Page, place: Place, packet: Packet, plain: &[u8])
+    ensures text { sheet page.new ≡ wrote_all (sheet page.old) (plain_line place.index place.channel packet (looked_into packet plain.now)) }
+    ensures short { length (concat (plain_line place.index place.channel packet (looked_into packet plain.now))) ≤ 400 + 6 * length plain.now }
 {
     match messages_of(packet, plain) {
         Ok(messages) => {
-            push_packet(page, index, channel, packet);
+            push_packet(page, place, packet);
             push_lengths(page, messages);
             page.push("\n");
         }
-        Err(refusal) => push_refusal(page, index, refusal),
+        Err(refusal) => push_refusal(page, place.index, refusal),
     }
 }
 
@@ -50,62 +50,60 @@ fn is_hidden(packet: Packet) -> bool
     packet.fragment.is_some() || packet.flag.is_sealed()
 }
 
-fn push_data(page: &mut Page, index: u64, channel: u16, datagram: &[u8], packet: Packet)
-    requires { (packet.start ≤ packet.end) × (packet.end ≤ length datagram.now) }
-    ensures text { sheet page.new ≡ wrote_all (sheet page.old) (data_line index channel datagram.now packet) }
-    ensures short { length (concat (data_line index channel datagram.now packet)) ≤ 400 + 6 * length datagram.now }
+fn push_data(page: &mut Page, place: Place, datagram: &[u8], packet: Packet)
+    requires ordered { packet.start ≤ packet.end }
+    requires within { packet.end ≤ length datagram.now }
+    ensures text { sheet page.new ≡ wrote_all (sheet page.old) (data_line place.index place.channel datagram.now packet) }
+    ensures short { length (concat (data_line place.index place.channel datagram.now packet)) ≤ 400 + 6 * length datagram.now }
 {
     if is_hidden(packet) {
-        push_packet(page, index, channel, packet);
+        push_packet(page, place, packet);
         page.push("\n");
-        return;
-    }
-    let Some(plain) = wire::coded_body(packet, datagram, 0, &[]) else {
-        unreachable()
-    };
-    push_plain(page, index, channel, packet, plain);
-}
-
-fn push_datagram(page: &mut Page, index: u64, channel: u16, datagram: &[u8])
-    ensures text { sheet page.new ≡ wrote_all (sheet page.old) (read_line index channel datagram.now (reading_of channel datagram.now)) }
-    ensures short { length (concat (read_line index channel datagram.now (reading_of channel datagram.now))) ≤ 144 + 48 * length datagram.now }
-{
-    match wire::read(datagram, channel) {
-        Err(refusal) => push_refusal(page, index, refusal),
-        Ok(Reading::Heartbeat { sender }) => push_heartbeat(page, index, sender),
-        Ok(Reading::StreamHeartbeat { sender, last }) => push_stream_heartbeat(
-            page, index, channel, sender, last,
-        ),
-        Ok(Reading::StreamEnd { sender, last }) => push_stream_end(
-            page, index, channel, sender, last,
-        ),
-        Ok(Reading::Data(packet)) => push_data(page, index, channel, datagram, packet),
+    } else {
+        let plain = wire::coded_body(packet, datagram, 0, &[]).unwrap();
+        push_plain(page, place, packet, plain);
     }
 }
 
-fn push_records(page: &mut Page, channel: u16, records: &[u8])
-    ensures text { sheet page.new ≡ wrote_all (sheet page.old) (lines_from channel 1 (records_of records.now)) }
-    ensures short { length (concat (lines_from channel 1 (records_of records.now))) ≤ 48 * length records.now + 72 }
+fn push_datagram(page: &mut Page, place: Place, datagram: &[u8])
+    ensures text { sheet page.new ≡ wrote_all (sheet page.old) (read_line place.index place.channel datagram.now (reading_of place.channel datagram.now)) }
+    ensures short { length (concat (read_line place.index place.channel datagram.now (reading_of place.channel datagram.now))) ≤ 144 + 48 * length datagram.now }
 {
-    let mut rest = records;
-    let mut index = 1;
-    'records: loop {
-        match next_record(rest) {
-            Next::End => return,
-            Next::Malformed => {
-                push_malformed(page, index);
-                return;
-            }
-            Next::Datagram { bytes, rest: more } => {
-                push_datagram(page, index, channel, bytes);
-                rest = more;
-            }
-            Next::Judge { number, rest: more } => {
-                push_judge(page, index, number);
-                rest = more;
-            }
+    match wire::read(datagram, place.channel) {
+        Err(refusal) => push_refusal(page, place.index, refusal),
+        Ok(Reading::Heartbeat { sender }) => push_heartbeat(page, place.index, sender),
+        Ok(Reading::StreamHeartbeat { sender, last }) => {
+            push_stream(page, place, "stream-heartbeat ", sender, last)
         }
-        index += 1;
+        Ok(Reading::StreamEnd { sender, last }) => {
+            push_stream(page, place, "stream-end ", sender, last)
+        }
+        Ok(Reading::Data(packet)) => push_data(page, place, datagram, packet),
+    }
+}
+
+fn push_record(page: &mut Page, place: Place, found: Result<Record<'_>, Malformed>)
+    ensures text { sheet page.new ≡ wrote_all (sheet page.old) (record_line place.channel place.index (record_in found.entry)) }
+    ensures short { length (concat (record_line place.channel place.index (record_in found.entry))) ≤ 48 * size_of (record_in found.entry) }
+{
+    match found {
+        Ok(Record::Datagram(datagram)) => push_datagram(page, place, datagram),
+        Ok(Record::Judge(number)) => push_judge(page, place.index, number),
+        Err(_) => push_malformed(page, place.index),
+    }
+}
+
+#[tactic(auto, using(crate::proofs::Taken::sizes_fit))]
+fn push_records(page: &mut Page, capture: Capture<'_>)
+    ensures text { sheet page.new ≡ wrote_all (sheet page.old) (lines_from capture.entry.channel 1 (records_of capture.entry.records.now)) }
+    ensures short { length (concat (lines_from capture.entry.channel 1 (records_of capture.entry.records.now))) ≤ 48 * length capture.entry.records.now }
+{
+    for (index, found) in (1..).zip(Records(capture.records)) {
+        let place = Place {
+            index,
+            channel: capture.channel,
+        };
+        push_record(page, place, found);
     }
 }
 
@@ -116,6 +114,6 @@ pub fn inspect(page: &mut Page, bytes: &[u8])
 {
     match open_capture(bytes) {
         None => push_malformed(page, 0),
-        Some(capture) => push_records(page, capture.channel, capture.records),
+        Some(capture) => push_records(page, capture),
     }
 }

@@ -8,4 +8,4 @@ pub mod record;
 
 pub use inspecting::{INSPECT_ROOM, inspect};
 pub use reader::{next_record, open_capture};
-pub use record::{Capture, Next};
+pub use record::{Capture, Malformed, Record};

@@ -1,5 +1,5 @@
 // The lines that `inspect` prints.
-ghost use Rattle.std.specs.Prelude.{◌≡◌, ◌+◌, ◌*◌, ◌≤◌, length, codes};
+ghost use Rattle.std.specs.Prelude.{◌≡◌, ◌+◌, ◌*◌, ◌≤◌, length};
 ghost use Rattle.std.specs.List.{concat};
 ghost use Rattle.page.specs.Text.{sheet, wrote_all};
 ghost use Rattle.wire.specs.Messages.{lengths_in};
@@ -9,6 +9,13 @@ use base::{Cause, Refusal};
 use page::Page;
 use wire::{Fragment, Messages, Packet};
 
+// The number of a record, and the channel of its capture.
+#[derive(Clone, Copy)]
+pub(crate) struct Place {
+    pub(crate) index: u64,
+    pub(crate) channel: u16,
+}
+
 fn push_named(page: &mut Page, name: &str, n: u64)
     ensures text { sheet page.new ≡ wrote_all (sheet page.old) (named name.now n) }
     ensures short { length (concat (named name.now n)) ≤ length name.now + 20 }
@@ -17,6 +24,7 @@ fn push_named(page: &mut Page, name: &str, n: u64)
     page.push_number(n);
 }
 
+#[tactic(auto, unfolding(crate::specs::Inspecting::refusal_line))]
 pub(crate) fn push_refusal(page: &mut Page, index: u64, refusal: Refusal)
     ensures text { sheet page.new ≡ wrote_all (sheet page.old) (refusal_line index refusal) }
     ensures short { length (concat (refusal_line index refusal)) ≤ 72 }
@@ -27,15 +35,17 @@ pub(crate) fn push_refusal(page: &mut Page, index: u64, refusal: Refusal)
     page.push("\n");
 }
 
+#[tactic(auto, unfolding(crate::specs::Inspecting::malformed_line))]
 pub(crate) fn push_malformed(page: &mut Page, index: u64)
     ensures text { sheet page.new ≡ wrote_all (sheet page.old) (malformed_line index) }
-    ensures short { length (concat (malformed_line index)) ≤ 72 }
+    ensures short { length (concat (malformed_line index)) ≤ 48 }
 {
     push_named(page, "R ", index);
     push_named(page, " ", u64::from(Cause::Capture.number()));
     page.push("\n");
 }
 
+#[tactic(auto, unfolding(crate::specs::Inspecting::judge_line))]
 pub(crate) fn push_judge(page: &mut Page, index: u64, number: u64)
     ensures text { sheet page.new ≡ wrote_all (sheet page.old) (judge_line index number) }
     ensures short { length (concat (judge_line index number)) ≤ 72 }
@@ -45,6 +55,7 @@ pub(crate) fn push_judge(page: &mut Page, index: u64, number: u64)
     page.push("\n");
 }
 
+#[tactic(auto, unfolding(crate::specs::Inspecting::heartbeat_line))]
 pub(crate) fn push_heartbeat(page: &mut Page, index: u64, sender: u8)
     ensures text { sheet page.new ≡ wrote_all (sheet page.old) (heartbeat_line index sender) }
     ensures short { length (concat (heartbeat_line index sender)) ≤ 72 }
@@ -54,45 +65,26 @@ pub(crate) fn push_heartbeat(page: &mut Page, index: u64, sender: u8)
     page.push("\n");
 }
 
-fn push_stream(page: &mut Page, name: &str, index: u64, channel: u16, sender: u8, last: u64)
-    ensures text { sheet page.new ≡ wrote_all (sheet page.old) (stream_line name.now index channel sender last) }
-    ensures short { length (concat (stream_line name.now index channel sender last)) ≤ length name.now + 120 }
+#[tactic(auto, unfolding(crate::specs::Inspecting::stream_line))]
+pub(crate) fn push_stream(page: &mut Page, place: Place, name: &str, sender: u8, last: u64)
+    ensures text { sheet page.new ≡ wrote_all (sheet page.old) (stream_line name.now place.index place.channel sender last) }
+    ensures short { length (concat (stream_line name.now place.index place.channel sender last)) ≤ length name.now + 120 }
 {
-    push_named(page, name, index);
+    push_named(page, name, place.index);
     push_named(page, " sender ", u64::from(sender));
-    push_named(page, " channel ", u64::from(channel));
+    push_named(page, " channel ", u64::from(place.channel));
     push_named(page, " last ", last);
     page.push("\n");
 }
 
-pub(crate) fn push_stream_heartbeat(
-    page: &mut Page,
-    index: u64,
-    channel: u16,
-    sender: u8,
-    last: u64,
-)
-    ensures text { sheet page.new ≡ wrote_all (sheet page.old) (stream_line (codes "stream-heartbeat ") index channel sender last) }
-    ensures short { length (concat (stream_line (codes "stream-heartbeat ") index channel sender last)) ≤ 140 }
+fn push_header(page: &mut Page, place: Place, packet: Packet)
+    ensures text { sheet page.new ≡ wrote_all (sheet page.old) (header_pieces place.index place.channel packet) }
+    ensures short { length (concat (header_pieces place.index place.channel packet)) ≤ 200 }
 {
-    push_stream(page, "stream-heartbeat ", index, channel, sender, last);
-}
-
-pub(crate) fn push_stream_end(page: &mut Page, index: u64, channel: u16, sender: u8, last: u64)
-    ensures text { sheet page.new ≡ wrote_all (sheet page.old) (stream_line (codes "stream-end ") index channel sender last) }
-    ensures short { length (concat (stream_line (codes "stream-end ") index channel sender last)) ≤ 140 }
-{
-    push_stream(page, "stream-end ", index, channel, sender, last);
-}
-
-fn push_header(page: &mut Page, index: u64, channel: u16, packet: Packet)
-    ensures text { sheet page.new ≡ wrote_all (sheet page.old) (header_pieces index channel packet) }
-    ensures short { length (concat (header_pieces index channel packet)) ≤ 200 }
-{
-    push_named(page, "data ", index);
+    push_named(page, "data ", place.index);
     push_named(page, " header ", u64::from(packet.header_size));
     push_named(page, " sender ", u64::from(packet.sender));
-    push_named(page, " channel ", u64::from(channel));
+    push_named(page, " channel ", u64::from(place.channel));
     push_named(page, " first ", packet.first);
     push_named(page, " count ", u64::from(packet.count));
     push_named(page, " flag ", u64::from(packet.flag.0));
@@ -125,11 +117,12 @@ fn push_body(page: &mut Page, packet: Packet)
     push_named(page, " to ", packet.end as u64);
 }
 
-pub(crate) fn push_packet(page: &mut Page, index: u64, channel: u16, packet: Packet)
-    ensures text { sheet page.new ≡ wrote_all (sheet page.old) (packet_pieces index channel packet) }
-    ensures short { length (concat (packet_pieces index channel packet)) ≤ 340 }
+#[tactic(auto, unfolding(crate::specs::Inspecting::packet_pieces))]
+pub(crate) fn push_packet(page: &mut Page, place: Place, packet: Packet)
+    ensures text { sheet page.new ≡ wrote_all (sheet page.old) (packet_pieces place.index place.channel packet) }
+    ensures short { length (concat (packet_pieces place.index place.channel packet)) ≤ 340 }
 {
-    push_header(page, index, channel, packet);
+    push_header(page, place, packet);
     push_fragment(page, packet.fragment);
     push_checksum(page, packet.checksum);
     push_body(page, packet);

@@ -10,12 +10,13 @@ pub struct Capture<'a> {
     pub records: &'a [u8],
 }
 
-/// What the bytes of records begin with, and what is left behind it.
 #[derive(Clone, Copy)]
-pub enum Next<'a> {
-    End,
-    Malformed,
-    Datagram { bytes: &'a [u8], rest: &'a [u8] },
+pub enum Record<'a> {
+    Datagram(&'a [u8]),
     /// The receiver was told to expect this number next.
-    Judge { number: u64, rest: &'a [u8] },
+    Judge(u64),
 }
+
+/// The bytes of records begin with no record.
+#[derive(Clone, Copy, Debug)]
+pub struct Malformed;

@@ -13,7 +13,7 @@ returns-in-None c =
     let pieces = inspect_pieces c.args.bytes.now in
     let is = ap capture_pieces c.in-None.ensures in
     let text = c.push_malformed.ensures.text ∙ ap (wrote_all s) is in
-    let short = subst (λ p. length (concat p) ≤ 72) is c.push_malformed.ensures.short in
+    let short = subst (λ p. length (concat p) ≤ 48) is c.push_malformed.ensures.short in
     record { text = text; whole = λ h. all_written s t pieces inspect_room text (omega arith) h }
 
 pub returns-in-Some : goal.returns-in-Some

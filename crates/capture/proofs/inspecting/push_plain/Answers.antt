@@ -12,9 +12,9 @@ returns-in-Ok c =
     let m = c.in-Ok.messages in
     let messages = looked_into p plain in
     let line =
-    plain_written c.args.index c.args.channel p messages (messages_in m) (lengths_in m) c.in-Ok.ensures.value
+    plain_written c.args.place.index c.args.place.channel p messages (messages_in m) (lengths_in m) c.in-Ok.ensures.value
     c.in-Ok.ensures.lengths (sheet c.args.page.now) in
     let short =
-    plain_short c.args.index c.args.channel p messages (messages_in m) (lengths_in m) c.in-Ok.ensures.value
+    plain_short c.args.place.index c.args.place.channel p messages (messages_in m) (lengths_in m) c.in-Ok.ensures.value
     c.in-Ok.ensures.lengths (length plain) c.push_packet.ensures.short c.push_lengths.ensures.short c.in-Ok.ensures.few in
     record { text = search rules; short = short }

@@ -1,63 +1,30 @@
-use Rattle.std.proofs.Common.{◌≡◌, ◌+◌, length, sym, ap, ◌∙◌, arith}
+use Rattle.std.proofs.Common.{◌≡◌, ◌+◌, length, ap, ◌∙◌, arith}
 use Rattle.std.specs.List.{concat}
+use Rattle.std.specs.Iterator.Adapters.{zip_first, zip_second}
 use Rattle.page.specs.Text.{sheet, wrote_all}
-use Rattle.capture.specs.Inspecting.{record_line}
-use Rattle.capture.specs.Records.{datagram, judge, malformed, one}
-use Rattle.capture.proofs.Turns.{lines_left, lines_more, lines_last, lines_end, line_more}
-use Rattle.capture.proofs.Written.{both_long}
+use Rattle.capture.specs.Inspecting.{lines_from}
+use Rattle.capture.specs.Records.{records_of, record_in}
+use Rattle.capture.proofs.Taken.{one_byte, line_more, lengths_more, sizes_more}
 use Rattle.capture.proofs.inspecting.push_records.Goals as goal
-use Rattle.capture.proofs.inspecting.push_records.Goals.{in-Datagram, in-Judge}
 
-pub returns-in-End : goal.returns-in-End
-returns-in-End c =
-    let none = lines_end c.args.channel (length c.args.records.now) c.records.index c.records.rest.now c.records.invariant.1 c.in-End.ensures.found in
+pub loop-index-preserved : goal.loop-index-preserved
+loop-index-preserved c =
+    let channel = c.args.capture.channel in
+    let index = c.in-Some.index in
+    let r = record_in c.in-Some.found in
+    let left = records_of (zip_second c.loop-index.index-iterator).0.now in
+    let more = records_of (zip_second c.next.new.self).0.now in
+    let steps = c.in-Some.ensures.steps in
+    let same : index ≡ (zip_first c.loop-index.index-iterator).start = steps.0.0 in
+    let next : (zip_first c.next.new.self).start ≡ index + 1 = omega (arith, steps.0.1) in
+    let sizes = sizes_more channel index left more r steps.1 in
+    let lines = ap (λ n. length (concat (lines_from channel n left))) same in
+    let others = ap (λ n. length (concat (lines_from channel n more))) next in
     record {
-      text = ap (wrote_all (sheet c.records.page)) (sym none) ∙ c.records.invariant.2;
-      short = omega (arith, ap (λ l. length (concat l)) none, c.records.invariant.3);
+      few = omega (arith, sizes, one_byte r);
+      text =
+          ap (λ n. wrote_all (sheet c.push_record.new.page) (lines_from channel n more)) next
+          ∙ line_more channel index left more r steps.1 (sheet c.loop-index.page) (sheet c.push_record.new.page) c.push_record.ensures.text
+          ∙ ap (λ n. wrote_all (sheet c.loop-index.page) (lines_from channel n left)) same ∙ c.loop-index.invariant.text;
+      short = omega (arith, sizes, lines, others, lengths_more channel index left more r steps.1, c.push_record.ensures.short);
     }
-
-pub returns-in-Malformed : goal.returns-in-Malformed
-returns-in-Malformed c =
-    let line =
-    lines_last c.args.channel (length c.args.records.now) c.records.index c.records.rest.now c.records.invariant.1 malformed
-    c.in-Malformed.ensures.found in
-    record {
-      text = c.push_malformed.ensures.text ∙ ap (wrote_all (sheet c.records.page)) (sym line) ∙ c.records.invariant.2;
-      short = omega (arith, ap (λ l. length (concat l)) line, c.push_malformed.ensures.short, c.records.invariant.3);
-    }
-
-pub records-preserved : goal.records-preserved
-records-preserved c =
-    let channel = c.args.channel in
-    let size = length c.args.records.now in
-    let index = c.records.index in
-    let rest = c.records.rest.now in
-    let more = c.match-next_record.rest.now in
-    let s = sheet c.records.page in
-    let t = sheet c.match-next_record.page in
-    let left = lines_left channel size index rest in
-    let then = lines_left channel size (index + 1) more in
-    elim c.match-next_record.branch [
-      | in-Datagram w ↦
-          let same = ap (λ x. x.now) w.rest-is in
-          let d = w.in-Datagram.bytes.now in
-          let line = record_line channel index (datagram d) in
-          let lines = lines_more channel size index rest c.records.invariant.1 (datagram d) more (ap (one (datagram d)) same ∙ w.in-Datagram.ensures.found) in
-          let takes : 3 + length d + length more ≡ length rest = omega (arith, ap length same, w.in-Datagram.ensures.takes) in (
-            omega arith,
-            omega arith,
-            line_more s t line then left (ap sheet w.page-is ∙ w.push_datagram.ensures.text) lines ∙ c.records.invariant.2,
-            omega (arith, ap (λ l. length (concat l)) lines, both_long line then, w.push_datagram.ensures.short, c.records.invariant.3),
-          )
-      | in-Judge w ↦
-          let same = ap (λ x. x.now) w.rest-is in
-          let k = w.in-Judge.number in
-          let line = record_line channel index (judge k) in
-          let lines = lines_more channel size index rest c.records.invariant.1 (judge k) more (ap (one (judge k)) same ∙ w.in-Judge.ensures.found) in
-          let takes : 9 + length more ≡ length rest = omega (arith, ap length same, w.in-Judge.ensures.takes) in (
-            omega arith,
-            omega arith,
-            line_more s t line then left (ap sheet w.page-is ∙ w.push_judge.ensures.text) lines ∙ c.records.invariant.2,
-            omega (arith, ap (λ l. length (concat l)) lines, both_long line then, w.push_judge.ensures.short, c.records.invariant.3),
-          )
-    ]

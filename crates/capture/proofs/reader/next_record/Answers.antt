@@ -1,20 +1,8 @@
-use Rattle.std.proofs.Common.{◌-◌, length, take, drop, rules}
-use Rattle.capture.proofs.Nexts.{judge-cut, datagram-cut}
+use Rattle.std.proofs.Common.{rules}
+use Rattle.capture.proofs.Nexts.{datagram-cut}
 use Rattle.capture.proofs.reader.next_record.Goals as goal
 
-pub returns-in-2 : goal.returns-in-2
-returns-in-2 c =
-    record {
-      found = judge-cut c.args.records.now c.from_be_bytes.result (search rules) (search rules) (search rules);
-      takes = search rules;
-    }
-
-pub returns-else-size-rest : goal.returns-else-size-rest
-returns-else-size-rest c =
-    let xs = c.args.records.now in
-    record {
-      found =
-          datagram-cut xs (take (length xs - 3) (drop 3 xs)) c.from-size.result (search rules) (search rules) (search rules)
-          (search rules) (search rules);
-      takes = search rules;
-    }
+pub returns-in_ok-datagram-in-1-clause-found : goal.returns-in_ok-datagram-in-1-clause-found
+returns-in_ok-datagram-in-1-clause-found c =
+    datagram-cut c.args.records.now c.in_ok-size-in-1.size.now c.in_ok-size-in-1.rest.now c.in_ok-datagram-in-1.datagram.now
+    c.in_ok-datagram-in-1.rest.now c.from-size.result (search rules) (search rules) (search rules) (search rules) (search rules) (search rules) (search rules) (search rules) (search rules)

@@ -1,0 +1,13 @@
+use Rattle.std.proofs.Common.{length, Ok, ap, arith}
+use Rattle.capture.specs.Records.{record_in}
+use Rattle.capture.proofs.Taken.{records_more}
+use Rattle.capture.proofs.reader.RecordsIterator.next.Goals as goal
+
+pub returns-in-Ok-Some-clause-steps : goal.returns-in-Ok-Some-clause-steps
+returns-in-Ok-Some-clause-steps c =
+    records_more c.args.self.now.0.now (record_in (Ok c.in-Ok-Some.record)) c.in-Ok-Some.rest.now (rw c.in-Ok-Some.field-0-is at c.in-Ok-Some.ensures.found)
+
+pub returns-in-Ok-Some-clause-goes : goal.returns-in-Ok-Some-clause-goes
+returns-in-Ok-Some-clause-goes c =
+    let more = records_more c.args.self.now.0.now (record_in (Ok c.in-Ok-Some.record)) c.in-Ok-Some.rest.now (rw c.in-Ok-Some.field-0-is at c.in-Ok-Some.ensures.found) in
+    record { on = λ _. (tt, tt, omega (arith, ap length more)); keeps = tt; rests = λ _. tt }
