@@ -16,6 +16,7 @@ pub(crate) struct Place {
     pub(crate) channel: u16,
 }
 
+// Not by `write!`, since a page without room leaves out whole pieces.
 fn push_named(page: &mut Page, name: &str, n: u64)
     ensures text { sheet page.new ≡ wrote_all (sheet page.old) (named name.now n) }
     ensures short { length (concat (named name.now n)) ≤ length name.now + 20 }

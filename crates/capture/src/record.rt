@@ -10,8 +10,10 @@ pub struct Capture<'a> {
     pub records: &'a [u8],
 }
 
+/// A record of a capture.
 #[derive(Clone, Copy)]
 pub enum Record<'a> {
+    /// The receiver was sent this.
     Datagram(&'a [u8]),
     /// The receiver was told to expect this number next.
     Judge(u64),

@@ -1,4 +1,4 @@
-use Rattle.std.proofs.Common.{◌≡◌, ℕ, ◌*◌, ◌≤◌, List, map, length, IfOk, Ok, Err, Result, sym, ap, arith, rules}
+use Rattle.std.proofs.Common.{◌≡◌, ℕ, ◌*◌, ◌≤◌, List, map, length, IfOk, Ok, Err, Result, sym, ap, arith}
 use Rattle.std.proofs.lemmas.List.{length-map}
 use Rattle.base.specs.declared.refusal.Refusal.{Refusal}
 use Rattle.wire.specs.Messages.{split_in, lengths_in, messages_in}
@@ -14,10 +14,6 @@ few count plain (Ok m) exact e l =
     omega (arith, fits, ap length l, length-map (messages_in m) length)
 few count plain (Err e) exact _ l = tt
 
-pub returns : goal.returns
-returns c =
-    record {
-      value = search rules;
-      lengths = c.split.ensures.lengths;
-      few = few c.args.packet.count c.args.plain.now c.split.result c.split.ensures.exact c.split.ensures.value c.split.ensures.lengths;
-    }
+pub returns-clause-few : goal.returns-clause-few
+returns-clause-few c =
+    few c.args.packet.count c.args.plain.now c.split.result c.split.ensures.exact c.split.ensures.value c.split.ensures.lengths
