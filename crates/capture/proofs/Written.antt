@@ -1,5 +1,5 @@
 -- Lines that are written piece by piece, and how long they are.
-use Rattle.std.proofs.Common.{◌≡◌, ℕ, ◌+◌, ◌-◌, ◌*◌, ◌≤◌, Bool, true, false, cond, ◌&&◌, ◌||◌, leb, List, [], ◌++◌, map, length, take, drop, is_some, Some, None, Ok, codes, Option, Result, sym, ap, ◌∙◌, subst, arith, length-append}
+use Rattle.std.proofs.Common.{◌≡◌, ℕ, ◌+◌, ◌-◌, ◌*◌, ◌≤◌, Bool, false, cond, ◌&&◌, ◌||◌, leb, List, [], ◌++◌, map, length, take, drop, is_some, Some, None, Ok, codes, Option, Result, sym, ap, ◌∙◌, subst, arith, length-append}
 use Rattle.std.proofs.lemmas.Bool.Decides.{nat_tests}
 use Rattle.std.specs.List.{concat}
 use Rattle.base.specs.declared.refusal.Refusal.{Refusal}
@@ -8,7 +8,7 @@ use Rattle.page.proofs.Pieces.{wrote_all-append, joined-append}
 use Rattle.wire.specs.Bodies.{coded_in}
 use Rattle.wire.specs.declared.datagram.Fragment.{Fragment}
 use Rattle.wire.specs.declared.datagram.Packet.{Packet}
-use Rattle.capture.specs.Inspecting.{Pieces, packet_pieces, messages_pieces, newline, is_hidden, looked_into, plain_line, data_line}
+use Rattle.capture.specs.Inspecting.{Pieces, packet_pieces, messages_pieces, newline, plain_line}
 
 pub both_long : (a b : Pieces) → length (concat (a ++ b)) ≡ length (concat a) + length (concat b)
 both_long a b = ap length (joined-append a b) ∙ length-append (concat a) (concat b)
@@ -36,17 +36,6 @@ module _ (index channel : ℕ) (p : Packet) (r : Result (List (List ℕ)) Refusa
   plain_short size h k m =
       subst (λ pieces. length (concat pieces) ≤ 400 + 6 * size) plain_is
       (omega (arith, both_long (packet_pieces index channel p) (messages_pieces ls ++ newline), both_long (messages_pieces ls) newline))
-
--- a packet whose body is hidden, and one whose body is not
-pub hidden_is : (index channel : ℕ) (d : List ℕ) (p : Packet) → is_hidden p ≡ true → packet_pieces index channel p ++ newline ≡ data_line index channel d p
-hidden_is index channel d p e =
-    sym (ap (λ b. cond b (packet_pieces index channel p ++ newline) (plain_line index channel p (looked_into p (take (p.end - p.start) (drop p.start d))))) e)
-
-pub shown_is : (index channel : ℕ) (d plain : List ℕ) (p : Packet) → is_hidden p ≡ false → plain ≡ take (p.end - p.start) (drop p.start d)
-    → plain_line index channel p (looked_into p plain) ≡ data_line index channel d p
-shown_is index channel d plain p e b =
-    ap (λ x. plain_line index channel p (looked_into p x)) b
-    ∙ sym (ap (λ b. cond b (packet_pieces index channel p ++ newline) (plain_line index channel p (looked_into p (take (p.end - p.start) (drop p.start d))))) e)
 
 both_hold : (start end size : ℕ) (x y : Option (List ℕ)) → start ≤ end → end ≤ size → cond (leb start end && leb end size) x y ≡ x
 both_hold start end size x y h k = grind (arith, nat_tests)

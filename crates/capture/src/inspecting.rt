@@ -30,6 +30,7 @@ fn messages_of(packet: Packet, plain: &[u8]) -> Result<Messages<'_>, Refusal>
     wire::split(plain, packet.count)
 }
 
+#[tactic(auto, using(crate::proofs::Written::plain_written))]
 fn push_plain(page: &mut Page, place: Place, packet: Packet, plain: &[u8])
     ensures text { sheet page.new ≡ wrote_all (sheet page.old) (plain_line place.index place.channel packet (looked_into packet plain.now)) }
     ensures short { length (concat (plain_line place.index place.channel packet (looked_into packet plain.now))) ≤ 400 + 6 * length plain.now }
@@ -50,6 +51,7 @@ fn is_hidden(packet: Packet) -> bool
     packet.fragment.is_some() || packet.flag.is_sealed()
 }
 
+#[tactic(auto, using(crate::proofs::Written::line_written, crate::proofs::Written::both_long, crate::proofs::Written::shown_part))]
 fn push_data(page: &mut Page, place: Place, datagram: &[u8], packet: Packet)
     requires ordered { packet.start ≤ packet.end }
     requires within { packet.end ≤ length datagram.now }
