@@ -1,11 +1,12 @@
 -- The loop over the lengths of a body.
-use Rattle.std.proofs.Common.{◌≡◌, ℕ, zero, suc, ◌+◌, ◌*◌, ◌/◌, ◌<◌, ◌≤◌, Bool, true, false, cond, List, [], ◌∷◌, map, length, get_or, take, drop, Ok, Err, Option, sym, refl, ap, ◌∙◌, arith}
+use Rattle.std.proofs.Common.{◌≡◌, ◌≢◌, ℕ, zero, suc, ◌+◌, ◌*◌, ◌/◌, ◌<◌, ◌≤◌, Bool, true, false, cond, ◌||◌, eqb, ltb, List, [], ◌∷◌, map, length, get_or, take, drop, Some, None, Option, sym, refl, ap, ◌∙◌, arith}
+use Rattle.std.proofs.lemmas.Bool.Decides.{nat_tests}
 use Rattle.std.specs.Simd.{first_chunks}
 use Rattle.std.proofs.lemmas.List.{at_drop_more, at_drop_all, get_or-map, length-map, drop-take}
 use Rattle.base.specs.Fields.{be}
-use Rattle.base.specs.declared.refusal.Refusal.{Refusal}
+use Rattle.base.specs.Limits.{max_message}
 use Rattle.base.proofs.Fields.{be-take}
-use Rattle.wire.specs.Splitting.{lengths_of}
+use Rattle.wire.specs.Splitting.{lengths_of, misfit}
 
 -- the lengths from the index i on, where there is one more, and where there is none
 pub lengths-more : {Y : Type 0} (F : List ℕ → Y) (fours : List (List ℕ)) (i n : ℕ) → i < length fours → n ≡ be 4 (get_or fours i []) 0
@@ -44,11 +45,38 @@ lengths-table body table fours n t l e =
     ap (map (λ four. be 4 four 0)) (e ∙ ap (λ m. first_chunks 4 m table) k)
     ∙ lengths-chunked n table ∙ ap (lengths_of n) t ∙ lengths-take n body
 
--- a length that has its place, and one that has not
-pub goes_on : (b : Bool) (e : Refusal) (end next : ℕ) (x y : Option ℕ) → Ok end ≡ cond b (Err e) (Ok next) → (cond b x y ≡ y) × (end ≡ next)
-goes_on true e end next x y h = absurd (let z : ◌≡◌ {A = ℕ} 0 1 = cc in omega arith)
-goes_on false e end next x y h = (refl, cc)
+-- where a message ends, if it has its place
+abbrev ends : ℕ → ℕ → ℕ → Option ℕ
+ends size at n = cond (eqb n 0 || (ltb max_message n || ltb size (at + n))) None (Some (at + n))
 
-pub stops : (b : Bool) (e f : Refusal) (next : ℕ) (x y : Option ℕ) → Err f ≡ cond b (Err e) (Ok next) → (cond b x y ≡ x) × (f ≡ e)
-stops true e f next x y h = (refl, cc)
-stops false e f next x y h = absurd (let z : ◌≡◌ {A = ℕ} 0 1 = cc in omega arith)
+goes_on : (b : Bool) (end next : ℕ) (x y : Option ℕ) → Some end ≡ cond b None (Some next) → (cond b x y ≡ y) × (end ≡ next)
+goes_on true end next x y h = absurd (let z : ◌≡◌ {A = ℕ} 0 1 = cc in omega arith)
+goes_on false end next x y h = (refl, cc)
+
+stops : (b : Bool) (next : ℕ) (x y : Option ℕ) → None ≡ cond b None (Some next) → cond b x y ≡ x
+stops true next x y h = refl
+stops false next x y h = absurd (let z : ◌≡◌ {A = ℕ} 0 1 = cc in omega arith)
+
+-- the first misfit from the index i on: where that message has its place, where it has none, and where no message is left but bytes, or nothing
+pub misfit_later : (fours : List (List ℕ)) (size i at end : ℕ) → i < length fours → Some end ≡ ends size at (be 4 (get_or fours i []) 0)
+    → misfit size i at (drop i (map (λ four. be 4 four 0) fours)) ≡ misfit size (i + 1) end (drop (i + 1) (map (λ four. be 4 four 0) fours))
+misfit_later fours size i at end h e =
+    let n = be 4 (get_or fours i []) 0 in
+    let more = drop (i + 1) (map (λ four. be 4 four 0) fours) in
+    let on = goes_on (eqb n 0 || (ltb max_message n || ltb size (at + n))) end (at + n) (Some (i + 1)) (misfit size (i + 1) (at + n) more) e in
+    lengths-more (misfit size i at) fours i n h refl ∙ on.0 ∙ ap (λ k. misfit size (i + 1) k more) (sym on.1)
+
+pub misfit_here : (fours : List (List ℕ)) (size i at : ℕ) → i < length fours → None ≡ ends size at (be 4 (get_or fours i []) 0)
+    → misfit size i at (drop i (map (λ four. be 4 four 0) fours)) ≡ Some (i + 1)
+misfit_here fours size i at h e =
+    let n = be 4 (get_or fours i []) 0 in
+    lengths-more (misfit size i at) fours i n h refl
+    ∙ stops (eqb n 0 || (ltb max_message n || ltb size (at + n))) (at + n) (Some (i + 1)) (misfit size (i + 1) (at + n) (drop (i + 1) (map (λ four. be 4 four 0) fours))) e
+
+pub misfit_last : (fours : List (List ℕ)) (size i at : ℕ) → i ≡ length fours → at ≢ size
+    → misfit size i at (drop i (map (λ four. be 4 four 0) fours)) ≡ Some i
+misfit_last fours size i at h n = lengths-all (misfit size i at) fours i (omega arith) ∙ grind (arith, nat_tests)
+
+pub misfit_none : (fours : List (List ℕ)) (size i at : ℕ) → i ≡ length fours → at ≡ size
+    → misfit size i at (drop i (map (λ four. be 4 four 0) fours)) ≡ None
+misfit_none fours size i at h e = lengths-all (misfit size i at) fours i (omega arith) ∙ grind (arith, nat_tests)

@@ -1,11 +1,13 @@
 -- Splitting gives the messages of which a body is made, and no others.
-use Rattle.std.proofs.Common.{◌≡◌, ℕ, zero, suc, ◌+◌, ◌*◌, ◌<◌, ◌≤◌, Bool, true, false, cond, ◌||◌, eqb, ltb, List, [], ◌∷◌, ◌++◌, map, length, get_or, take, drop, Some, None, Ok, Option, sym, refl, ap, ◌∙◌, subst, append_assoc, arith, length-append, length-drop, take-add}
+use Rattle.std.proofs.Common.{◌≡◌, ℕ, zero, suc, ◌+◌, ◌*◌, ◌<◌, ◌≤◌, Bool, true, false, cond, ◌||◌, eqb, ltb, List, [], ◌∷◌, ◌++◌, map, length, sum, get_or, take, drop, Some, None, Ok, Err, Option, sym, refl, ap, ◌∙◌, subst, append_assoc, arith, length-append, length-drop, take-add}
 use Rattle.std.proofs.lemmas.List.{take_at, drop_at, take-append-drop, length-take-le, get_or-drop}
+use Rattle.std.proofs.lemmas.List.Sums.{sum_by-cons}
 use Rattle.std.proofs.lemmas.Bool.Decides.{nat_tests}
 use Rattle.base.specs.Areas.{Bytes}
 use Rattle.base.specs.Fields.{be, be_bytes}
 use Rattle.base.proofs.Fields.{be-be_bytes, be_bytes-be, length-be_bytes}
-use Rattle.wire.specs.Splitting.{lengths_of, cut, misfit, cut_unless, split_of, table, joined, Tells}
+use Rattle.base.specs.declared.refusal.Cause.TheVariants.{MessageLengths}
+use Rattle.wire.specs.Splitting.{lengths_of, cut, misfit, cut_unless, split_of, table, joined, Tells, Exact}
 
 -- messages, and lengths, that a body can have
 abbrev Lengths : List ℕ → Type 0
@@ -81,9 +83,8 @@ pub every : (count : ℕ) (body : List ℕ) (ms : List (List ℕ)) → Tells cou
 every count body ms t =
     ap (λ n. split_of n body) (sym t.number) ∙ ap (split_of (length ms)) (sym t.whole) ∙ splits ms (sizes-of count body ms t)
 
-abbrev total : List ℕ → ℕ
-total [] = 0
-total (n ∷ ns) = n + total ns
+sum-cons : (n : ℕ) (ns : List ℕ) → sum (n ∷ ns) ≡ n + sum ns
+sum-cons n ns = sum_by-cons (λ x. x) n ns
 
 answered : (o : Option ℕ) (x ms : List (List ℕ)) → cut_unless o x ≡ Ok ms → (o ≡ None) × (x ≡ ms)
 answered None x ms e = (refl, cc)
@@ -109,12 +110,12 @@ sized-at n ns first more (suc k) h = more k (omega arith)
 
 -- lengths that fill their place
 filling : (ns : List ℕ) (size i at : ℕ) → misfit size i at ns ≡ None
-    → (at + total ns ≡ size) × Lengths ns
+    → (at + sum ns ≡ size) × Lengths ns
 filling [] size i at e = (omega (arith, at_end at size i e), λ k h. absurd (omega arith))
 filling (n ∷ ns) size i at e =
     let p = passed (eqb n 0 || (ltb 4092 n || ltb size (at + n))) (i + 1) (misfit size (i + 1) (at + n) ns) e in
     let rest = filling ns size (i + 1) (at + n) p.1 in
-    (omega (arith, rest.0), sized-at n ns (in_place n at size p.0) rest.1)
+    (omega (arith, rest.0, sum-cons n ns), sized-at n ns (in_place n at size p.0) rest.1)
 
 length-lengths : (n : ℕ) (bytes : List ℕ) → length (lengths_of n bytes) ≡ n
 length-lengths zero bytes = refl
@@ -124,30 +125,37 @@ length_cut : (ns bytes : List ℕ) → length (cut ns bytes) ≡ length ns
 length_cut [] bytes = refl
 length_cut (n ∷ ns) bytes = ap suc (length_cut ns (drop n bytes))
 
-lengths-cut : (ns bytes : List ℕ) (k : ℕ) → total ns ≤ length bytes → k < length ns → length (get_or (cut ns bytes) k []) ≡ get_or ns k 0
+lengths-cut : (ns bytes : List ℕ) (k : ℕ) → sum ns ≤ length bytes → k < length ns → length (get_or (cut ns bytes) k []) ≡ get_or ns k 0
 lengths-cut [] bytes k h l = absurd (omega arith)
-lengths-cut (n ∷ ns) bytes zero h l = length-take-le n bytes (omega arith)
-lengths-cut (n ∷ ns) bytes (suc k) h l = lengths-cut ns (drop n bytes) k (omega (arith, length-drop n bytes)) (omega arith)
+lengths-cut (n ∷ ns) bytes zero h l = length-take-le n bytes (omega (arith, sum-cons n ns))
+lengths-cut (n ∷ ns) bytes (suc k) h l = lengths-cut ns (drop n bytes) k (omega (arith, length-drop n bytes, sum-cons n ns)) (omega arith)
 
-joined-cut : (ns bytes : List ℕ) → total ns ≡ length bytes → joined (cut ns bytes) ≡ bytes
+pub lengths_cut : (ns bytes : List ℕ) → sum ns ≡ length bytes → map length (cut ns bytes) ≡ ns
+lengths_cut [] bytes e = refl
+lengths_cut (n ∷ ns) bytes e =
+    ap (λ k. k ∷ map length (cut ns (drop n bytes))) (length-take-le n bytes (omega (arith, sum-cons n ns)))
+    ∙ ap (λ l. n ∷ l) (lengths_cut ns (drop n bytes) (omega (arith, length-drop n bytes, sum-cons n ns)))
+
+pub joined-cut : (ns bytes : List ℕ) → sum ns ≡ length bytes → joined (cut ns bytes) ≡ bytes
 joined-cut [] [] e = refl
 joined-cut [] (b ∷ bs) e = absurd (omega arith)
 joined-cut (n ∷ ns) bytes e =
-    ap (λ l. take n bytes ++ l) (joined-cut ns (drop n bytes) (omega (arith, length-drop n bytes))) ∙ take-append-drop n bytes
+    ap (λ l. take n bytes ++ l) (joined-cut ns (drop n bytes) (omega (arith, length-drop n bytes, sum-cons n ns))) ∙ take-append-drop n bytes
 
 pub bytes_drop : (n : ℕ) (bytes : List ℕ) → Bytes bytes → Bytes (drop n bytes)
 bytes_drop n bytes b =
     record { below = λ k h. let l : n + k < length bytes = omega (arith, length-drop n bytes) in rw get_or-drop (b.below (n + k) l) }
 
-table-cut : (n : ℕ) (body bytes : List ℕ) → 4 * n ≤ length body → Bytes body → total (lengths_of n body) ≤ length bytes
+table-cut : (n : ℕ) (body bytes : List ℕ) → 4 * n ≤ length body → Bytes body → sum (lengths_of n body) ≤ length bytes
     → table (cut (lengths_of n body) bytes) ≡ take (4 * n) body
 table-cut zero body bytes h b l = refl
 table-cut (suc n) body bytes h b l =
     let x = be 4 body 0 in
     let size : 4 + 4 * n ≡ 4 * suc n = omega arith in
-    ap (λ k. be_bytes 4 k ++ table (cut (lengths_of n (drop 4 body)) (drop x bytes))) (length-take-le x bytes (omega arith))
+    let more = sum-cons x (lengths_of n (drop 4 body)) in
+    ap (λ k. be_bytes 4 k ++ table (cut (lengths_of n (drop 4 body)) (drop x bytes))) (length-take-le x bytes (omega (arith, more)))
     ∙ ap (λ l. l ++ table (cut (lengths_of n (drop 4 body)) (drop x bytes))) (be_bytes-be 4 body (omega arith) b)
-    ∙ ap (λ l. take 4 body ++ l) (table-cut n (drop 4 body) (drop x bytes) (omega (arith, length-drop 4 body)) (bytes_drop 4 body b) (omega (arith, length-drop x bytes)))
+    ∙ ap (λ l. take 4 body ++ l) (table-cut n (drop 4 body) (drop x bytes) (omega (arith, length-drop 4 body)) (bytes_drop 4 body b) (omega (arith, length-drop x bytes, more)))
     ∙ sym (take-add 4 (4 * n) body) ∙ ap (λ k. take k body) size
 
 pub only : (count : ℕ) (body : List ℕ) (ms : List (List ℕ)) → Bytes body → split_of count body ≡ Ok ms → Tells count body ms
@@ -160,7 +168,7 @@ only count body ms b e =
     let long : 4 * count ≤ length body = long_enough (length body) (4 * count) p.0 in
     let f = filling ns (length body) 0 (4 * count) p.1 in
     let n : length ns ≡ count = length-lengths count body in
-    let all : total ns ≡ length bytes = omega (arith, length-drop (4 * count) body, f.0) in
+    let all : sum ns ≡ length bytes = omega (arith, length-drop (4 * count) body, f.0) in
     let made : Tells count body (cut ns bytes) =
     record {
       number = length_cut ns bytes ∙ n;
@@ -176,11 +184,24 @@ only count body ms b e =
     } in
     subst (Tells count body) a.1 made
 
--- the lengths that a body begins with are those of its messages
-pub lengths-told : (count : ℕ) (body : List ℕ) (ms : List (List ℕ)) → Tells count body ms → lengths_of count body ≡ map length ms
-lengths-told count body ms t =
-    ap (λ n. lengths_of n body) (sym t.number) ∙ ap (lengths_of (length ms)) (sym t.whole) ∙ lengths-of ms (joined ms) (sizes-of count body ms t)
-
 -- a body has room for its lengths
 pub table_fits_lem : (count : ℕ) (body : List ℕ) (ms : List (List ℕ)) → Tells count body ms → 4 * length ms ≤ length body
 table_fits_lem count body ms t = omega (arith, length-table ms, length-append (table ms) (joined ms), ap length t.whole)
+
+pub exact : (count : ℕ) (body : List ℕ) → Bytes body → Exact count body
+exact count body b = record { only = λ ms e. only count body ms b e; every = every count body }
+
+-- a split by its first misfit, or where there is none
+pub split-misfit : (count i : ℕ) (body : List ℕ) → 4 * count ≤ length body → misfit (length body) 0 (4 * count) (lengths_of count body) ≡ Some i
+    → split_of count body ≡ Err (record { cause = MessageLengths; value = i })
+unfolding split_of
+split-misfit count i body h e = ap (λ o. cut_unless o (cut (lengths_of count body) (drop (4 * count) body))) (long_test (length body) (4 * count) (Some 1) _ h ∙ e)
+
+pub split-fits : (count : ℕ) (body : List ℕ) → 4 * count ≤ length body → misfit (length body) 0 (4 * count) (lengths_of count body) ≡ None
+    → split_of count body ≡ Ok (cut (lengths_of count body) (drop (4 * count) body))
+unfolding split_of
+split-fits count body h e = ap (λ o. cut_unless o (cut (lengths_of count body) (drop (4 * count) body))) (long_test (length body) (4 * count) (Some 1) _ h ∙ e)
+
+pub split-whole : (count : ℕ) (body : List ℕ) → 4 * count ≤ length body → misfit (length body) 0 (4 * count) (lengths_of count body) ≡ None
+    → sum (lengths_of count body) ≡ length (drop (4 * count) body)
+split-whole count body h e = omega (arith, length-drop (4 * count) body, (filling (lengths_of count body) (length body) 0 (4 * count) e).0)

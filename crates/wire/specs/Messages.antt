@@ -3,7 +3,7 @@ use Rattle.std.specs.Prelude.{ℕ, List, map, Ok, Err, Result}
 use Rattle.base.specs.Fields.{be}
 use Rattle.base.specs.declared.refusal.Refusal.{Refusal}
 use Rattle.wire.specs.Splitting.{cut}
-use Rattle.wire.specs.declared.splitting.Messages.{Messages}
+use Rattle.wire.specs.declared.messages.Messages.{Messages}
 
 abbrev pub lengths_in : Messages → List ℕ
 lengths_in m = map (λ four. be 4 four 0) m.lengths.now

@@ -6,11 +6,13 @@ pub mod datagram;
 mod fields;
 pub mod flag;
 mod head;
+pub mod messages;
 pub mod reading;
 pub mod splitting;
 
 pub use body::{check_body, coded_body};
 pub use datagram::{Fragment, Packet, Reading};
 pub use flag::Flag;
+pub use messages::Messages;
 pub use reading::read;
-pub use splitting::{Messages, split};
+pub use splitting::split;

@@ -1,24 +1,44 @@
-use Rattle.std.proofs.Common.{◌≡◌, ℕ, List, map, length, IfOk, Ok, Err, Result, sym, ◌∙◌, rules}
-use Rattle.base.specs.Areas.{Bytes}
-use Rattle.base.specs.declared.refusal.Refusal.{Refusal}
-use Rattle.wire.specs.Messages.{split_in, lengths_in, messages_in}
-use Rattle.wire.specs.Splitting.{split_of, lengths_of}
-use Rattle.wire.specs.declared.splitting.Messages.{Messages}
-use Rattle.wire.proofs.Exactly.{only, every, lengths-told}
+use Rattle.std.proofs.Common.{◌+◌, length, arith, rules}
+use Rattle.std.proofs.lemmas.List.Sums.{sum-map}
+use Rattle.base.specs.Fields.{be}
+use Rattle.wire.proofs.Cuts.{misfit_later, misfit_here, misfit_last, misfit_none, lengths-table}
+use Rattle.wire.proofs.Exactly.{split-misfit, split-fits, split-whole}
 use Rattle.wire.proofs.splitting.split.Goals as goal
 
-lengths : (count : ℕ) (body : List ℕ) (r : Result Messages Refusal) → Bytes body → split_in r ≡ split_of count body
-    → IfOk r (λ m. lengths_in m ≡ lengths_of count body) → IfOk r (λ m. lengths_in m ≡ map length (messages_in m))
-lengths count body (Ok m) b e h = h ∙ lengths-told count body (messages_in m) (only count body (messages_in m) b (sym e))
-lengths count body (Err e) b _ h = tt
+pub loop-i-preserved : goal.loop-i-preserved
+loop-i-preserved c =
+    let later = misfit_later c.as_chunks.result.0.now (length c.args.body.now) c.loop-i.i c.loop-i.at c.in_ok-at.at (omega arith) (search rules) in
+    search rules
 
-pub returns : goal.returns
-returns c =
-    let count = c.args.count in
-    let body = c.args.body.now in
-    let bytes : Bytes body = search rules in
-    record {
-      value = c.cut_by_lengths.ensures.value;
-      lengths = lengths count body c.cut_by_lengths.result bytes c.cut_by_lengths.ensures.value c.cut_by_lengths.ensures.lengths;
-      exact = record { only = λ ms e. only count body ms bytes e; every = every count body };
-    }
+pub returns-in_err-at-clause-value : goal.returns-in_err-at-clause-value
+returns-in_err-at-clause-value c =
+    let fours = c.as_chunks.result.0.now in
+    let all = lengths-table c.args.body.now c.split_at.result.0.now fours c.args.count (search rules) (search rules) c.as_chunks.ensures.front in
+    let here = misfit_here fours (length c.args.body.now) c.loop-i.i c.loop-i.at (omega arith) (search rules) in
+    let refused = split-misfit c.args.count (c.loop-i.i + 1) c.args.body.now (omega arith) cc in
+    search rules
+
+pub returns-then-at-body-clause-value : goal.returns-then-at-body-clause-value
+returns-then-at-body-clause-value c =
+    let fours = c.as_chunks.result.0.now in
+    let all = lengths-table c.args.body.now c.split_at.result.0.now fours c.args.count (search rules) (search rules) c.as_chunks.ensures.front in
+    let last = misfit_last fours (length c.args.body.now) c.loop-i.i c.loop-i.at (omega arith) c.if-at-body.true in
+    let refused = split-misfit c.args.count c.loop-i.i c.args.body.now (omega arith) cc in
+    search rules
+
+pub invariant_of-result : goal.invariant_of-result
+invariant_of-result c =
+    let fours = c.as_chunks.result.0.now in
+    let all = lengths-table c.args.body.now c.split_at.result.0.now fours c.args.count (search rules) (search rules) c.as_chunks.ensures.front in
+    let none = misfit_none fours (length c.args.body.now) c.loop-i.i c.loop-i.at (omega arith) (omega arith) in
+    let whole = split-whole c.args.count c.args.body.now (omega arith) cc in
+    let sums = sum-map (λ four. be 4 four 0) fours in
+    search rules
+
+pub returns-clause-value : goal.returns-clause-value
+returns-clause-value c =
+    let fours = c.as_chunks.result.0.now in
+    let all = lengths-table c.args.body.now c.split_at.result.0.now fours c.args.count (search rules) (search rules) c.as_chunks.ensures.front in
+    let none = misfit_none fours (length c.args.body.now) c.loop-i.i c.loop-i.at (omega arith) (omega arith) in
+    let fits = split-fits c.args.count c.args.body.now (omega arith) cc in
+    search rules

@@ -1,7 +1,7 @@
 use Rattle.std.proofs.Common.{◌≡◌, ◌*◌, ◌≤◌, map, length, drop}
 use Rattle.base.specs.Fields.{be}
 use Rattle.wire.specs.Splitting.{misfit}
-use Rattle.wire.proofs.splitting.cut_by_lengths.Given as goal
+use Rattle.wire.proofs.splitting.split.Given as goal
 
 abbrev pub invariant-loop-i : goal.invariant-loop-i
 invariant-loop-i l =
