@@ -11,7 +11,7 @@ ghost use Rattle.wire.specs.Bounds.{Bounds, FragmentBounds};
 ghost use Rattle.wire.specs.Reading.{frame_rows, frame_of, head_rows, sound_head, words_for, numbered, control_rows, control_kind, data_rows, first_in_range, fragment_rows, fragment_numbers, control_of, first_number_of, fragment_of, checksum_of, layers_of, reading_of};
 
 use crate::datagram::{Fragment, MARKET, PROTOCOL, Packet, Reading, VERSION};
-use crate::fields::{i64_at, u16_at, u32_at};
+use crate::fields::bytes_at;
 use crate::flag::Flag;
 use crate::head::Head;
 use base::limits::{MAX_DATAGRAM, MAX_FRAGMENTS, MAX_MESSAGES, MAX_NUMBER, MIN_DATAGRAM, TRAILER};
@@ -34,7 +34,7 @@ fn has_right_trailer(datagram: &[u8]) -> bool
     ensures { result ≡ (be 4 datagram.now (length datagram.now - 4) == adler_of (take (length datagram.now - 4) datagram.now)) }
 {
     let end = datagram.len() - TRAILER;
-    u32_at(datagram, end) == adler32(&datagram[0..end])
+    u32::from_be_bytes(bytes_at(datagram, end)) == adler32(&datagram[..end])
 }
 
 // The head, from the third and fourth byte and what stands behind the first four.
@@ -45,11 +45,11 @@ fn head_of(header_size: u8, sender: u8, rest: &[u8]) -> Head
     Head {
         header_size,
         sender,
-        market: u16_at(rest, 0),
-        channel: u16_at(rest, 2),
-        seq: i64_at(rest, 4),
-        count: u16_at(rest, 12),
-        flag: Flag(u16_at(rest, 14)),
+        market: u16::from_be_bytes(bytes_at(rest, 0)),
+        channel: u16::from_be_bytes(bytes_at(rest, 2)),
+        seq: i64::from_be_bytes(bytes_at(rest, 4)),
+        count: u16::from_be_bytes(bytes_at(rest, 12)),
+        flag: Flag(u16::from_be_bytes(bytes_at(rest, 14))),
     }
 }
 
@@ -175,8 +175,8 @@ fn fragment_rows(head: Head, datagram: &[u8]) -> Result<Option<Fragment>, Refusa
     if !head.flag.is_fragmented() {
         return Ok(None);
     }
-    let total = u16_at(datagram, 20);
-    let number = u16_at(datagram, 22);
+    let total = u16::from_be_bytes(bytes_at(datagram, 20));
+    let number = u16::from_be_bytes(bytes_at(datagram, 22));
     let empty = datagram.len() == 4 * usize::from(head.header_size) + TRAILER;
     if total == 0 || total > MAX_FRAGMENTS || number == 0 || number > total || empty {
         return Err(refused(Cause::Fragment, 20));
@@ -189,7 +189,7 @@ fn checksum_of(head: Head, datagram: &[u8]) -> Option<u32>
     ensures { result ≡ checksum_of datagram.now head }
 {
     if head.flag.has_checksum() {
-        Some(u32_at(datagram, 4 * usize::from(head.header_size) - 4))
+        Some(u32::from_be_bytes(bytes_at(datagram, 4 * usize::from(head.header_size) - 4)))
     } else {
         None
     }
