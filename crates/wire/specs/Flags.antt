@@ -1,12 +1,21 @@
 -- The bits of the Flag word.
-use Rattle.std.specs.Prelude.{ℕ, Bool, ◌==◌}
+use Rattle.std.specs.Prelude.{ℕ, zero, suc, Bool, Some, None, Option, ◌==◌}
 use Rattle.base.specs.Fields.{bits}
+use Rattle.wire.specs.declared.flag.MessageType.{MessageType}
+use Rattle.wire.specs.declared.flag.MessageType.TheVariants.{Management, Application}
+use Rattle.wire.specs.declared.flag.Encryption.{Encryption}
+use Rattle.wire.specs.declared.flag.Encryption.TheVariants.{Plain, Token}
 
 -- bit 15, possible duplicate, is not acted on
 
 -- bits 14 and 13: 0 is management, 1 is application
 abbrev pub message_type : ℕ → ℕ
 message_type flag = bits flag 13 2
+
+abbrev pub type_numbered : ℕ → Option MessageType
+type_numbered zero = Some Management
+type_numbered (suc zero) = Some Application
+type_numbered (suc (suc n)) = None
 
 -- bit 12: the stream can be resent by number
 abbrev pub is_by_number : ℕ → Bool
@@ -19,6 +28,11 @@ compression flag = bits flag 10 2
 -- bits 9 and 8: 0 is none, 1 is by a token
 abbrev pub encryption : ℕ → ℕ
 encryption flag = bits flag 8 2
+
+abbrev pub encryption_numbered : ℕ → Option Encryption
+encryption_numbered zero = Some Plain
+encryption_numbered (suc zero) = Some Token
+encryption_numbered (suc (suc n)) = None
 
 abbrev pub is_sealed : ℕ → Bool
 is_sealed flag = encryption flag == 1

@@ -1,17 +1,36 @@
 // The Flag word of a header, by its bits.
-ghost use Rattle.std.specs.Prelude.{◌≡◌};
-ghost use Rattle.wire.specs.Flags.{message_type, is_by_number, compression, encryption, has_lengths, is_fragmented, has_checksum, reserved, is_sealed};
+ghost use Rattle.std.specs.Prelude.{◌≡◌, ◌==◌, nat_lt, not, is_none};
+ghost use Rattle.wire.specs.Flags.{message_type, type_numbered, is_by_number, compression, encryption, encryption_numbered, has_lengths, is_fragmented, has_checksum, reserved, is_sealed};
 
 /// The Flag word of a header.
 #[derive(Clone, Copy)]
 pub struct Flag(pub u16);
 
+// What the messages of a datagram are for.
+#[derive(Clone, Copy)]
+pub(crate) enum MessageType {
+    Management,
+    Application,
+}
+
+// How a body is encrypted.
+#[derive(Clone, Copy)]
+pub(crate) enum Encryption {
+    Plain,
+    Token,
+}
+
 impl Flag {
-    // 0 is management, 1 is application.
-    pub(crate) fn message_type(self) -> u16
-        ensures { result ≡ message_type self.0 }
+    // None where the type is reserved.
+    pub(crate) fn message_type(self) -> Option<MessageType>
+        ensures value { result ≡ type_numbered (message_type self.0) }
+        ensures reserved { is_none result ≡ nat_lt 1 (message_type self.0) }
     {
-        (self.0 >> 13) % 4
+        match (self.0 >> 13) % 4 {
+            0 => Some(MessageType::Management),
+            1 => Some(MessageType::Application),
+            _ => None,
+        }
     }
 
     pub(crate) fn is_by_number(self) -> bool
@@ -20,18 +39,22 @@ impl Flag {
         (self.0 >> 12) % 2 == 1
     }
 
-    // 0 is none.
-    pub(crate) fn compression(self) -> u16
-        ensures { result ≡ compression self.0 }
+    pub(crate) fn is_compressed(self) -> bool
+        ensures { result ≡ not (compression self.0 == 0) }
     {
-        (self.0 >> 10) % 4
+        (self.0 >> 10) % 4 != 0
     }
 
-    // 0 is none, 1 is by a token.
-    pub(crate) fn encryption(self) -> u16
-        ensures { result ≡ encryption self.0 }
+    // None where the encryption is reserved.
+    pub(crate) fn encryption(self) -> Option<Encryption>
+        ensures value { result ≡ encryption_numbered (encryption self.0) }
+        ensures reserved { is_none result ≡ nat_lt 1 (encryption self.0) }
     {
-        (self.0 >> 8) % 4
+        match (self.0 >> 8) % 4 {
+            0 => Some(Encryption::Plain),
+            1 => Some(Encryption::Token),
+            _ => None,
+        }
     }
 
     pub(crate) fn has_lengths(self) -> bool
@@ -52,16 +75,16 @@ impl Flag {
         (self.0 >> 5) % 2 == 1
     }
 
-    pub(crate) fn reserved(self) -> u16
-        ensures { result ≡ reserved self.0 }
+    pub(crate) fn has_reserved_bits(self) -> bool
+        ensures { result ≡ not (reserved self.0 == 0) }
     {
-        self.0 % 32
+        self.0 % 32 != 0
     }
 
     /// Whether the body is sealed under the channel's token.
     pub fn is_sealed(self) -> bool
         ensures { result ≡ is_sealed self.0 }
     {
-        self.encryption() == 1
+        matches!(self.encryption(), Some(Encryption::Token))
     }
 }

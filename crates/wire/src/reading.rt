@@ -1,32 +1,18 @@
 // Reading a datagram: refusals in the order of their table, then its kind and fields.
-ghost use Rattle.std.specs.Prelude.{◌≡◌, ◌+◌, ◌-◌, ◌*◌, ◌≤◌, true, false, ◌∷◌, length, take, IfSome, IfOk, if◌then◌else◌, Some, None, Ok, OnOk, ◌==◌};
+ghost use Rattle.std.specs.Prelude.{◌≡◌, ◌+◌, ◌-◌, ◌*◌, ◌≤◌, ◌∷◌, length, take, IfOk, OnOk, ◌==◌};
 ghost use Rattle.base.specs.Adler.{adler_of};
 ghost use Rattle.base.specs.Fields.{be};
-ghost use Rattle.base.specs.Refusals.{first_of, refused_in};
-ghost use Rattle.wire.specs.Header.{head_of};
-ghost use Rattle.base.specs.declared.refusal.Cause.TheVariants.{ControlShape, NumberRange};
-ghost use Rattle.std.specs.Option.{ok_or};
-ghost use Rattle.wire.specs.Flags.{is_fragmented, has_checksum};
+ghost use Rattle.base.specs.Limits.{max_number, max_datagram, max_messages, trailer_size};
 ghost use Rattle.wire.specs.Bounds.{Bounds, FragmentBounds};
-ghost use Rattle.wire.specs.Reading.{frame_rows, frame_of, head_rows, sound_head, words_for, numbered, control_rows, control_kind, data_rows, first_in_range, fragment_rows, fragment_numbers, control_of, first_number_of, fragment_of, checksum_of, layers_of, reading_of};
+ghost use Rattle.wire.specs.Header.{head_of};
+ghost use Rattle.wire.specs.Reading.{frame_of, sound_head, words_for, control_of, first_number_of, fragment_of, checksum_of, reading_of};
 
 use crate::datagram::{Fragment, MARKET, PROTOCOL, Packet, Reading, VERSION};
 use crate::fields::bytes_at;
-use crate::flag::Flag;
+use crate::flag::{Flag, MessageType};
 use crate::head::Head;
 use base::limits::{MAX_DATAGRAM, MAX_FRAGMENTS, MAX_MESSAGES, MAX_NUMBER, MIN_DATAGRAM, TRAILER};
 use base::{Cause, Refusal, adler32};
-
-const STREAM_END: u16 = 0xFFFF;
-
-fn refused(cause: Cause, place: u64) -> Refusal
-    ensures { result ≡ record { cause = cause; value = place } }
-{
-    Refusal {
-        cause,
-        value: place,
-    }
-}
 
 // The trailer is the checksum of all that stands before it.
 fn has_right_trailer(datagram: &[u8]) -> bool
@@ -54,25 +40,26 @@ fn head_of(header_size: u8, sender: u8, rest: &[u8]) -> Head
 }
 
 // The head of a datagram that is sound as a whole.
-fn frame_rows(datagram: &[u8]) -> Result<Head, Refusal>
-    ensures value { result ≡ first_of (frame_rows datagram.now) (Ok (head_of datagram.now)) }
-    ensures sized { OnOk result ((24 ≤ length datagram.now) × (length datagram.now ≤ 1472)) }
+#[tactic(auto, unfolding(crate::specs::Reading::frame_of))]
+fn framed_head(datagram: &[u8]) -> Result<Head, Refusal>
+    ensures value { result ≡ frame_of datagram.now }
+    ensures sized { OnOk result (length datagram.now ≤ max_datagram) }
 {
     let size = datagram.len();
-    if size < MIN_DATAGRAM || size > MAX_DATAGRAM {
-        return Err(refused(Cause::DatagramSize, 0));
+    if !(MIN_DATAGRAM..=MAX_DATAGRAM).contains(&size) {
+        return Err(Refusal::new(Cause::DatagramSize, 0));
     }
     let [protocol, version, header_size, sender, rest @ ..] = datagram else {
-        return Err(refused(Cause::DatagramSize, 0));
+        return Err(Refusal::new(Cause::DatagramSize, 0));
     };
     if *protocol != PROTOCOL {
-        return Err(refused(Cause::Protocol, 0));
+        return Err(Refusal::new(Cause::Protocol, 0));
     }
     if *version != VERSION {
-        return Err(refused(Cause::Version, 1));
+        return Err(Refusal::new(Cause::Version, 1));
     }
     if !has_right_trailer(datagram) {
-        return Err(refused(Cause::Trailer, (size - TRAILER) as u64));
+        return Err(Refusal::new(Cause::Trailer, (size - TRAILER) as u64));
     }
     Ok(head_of(*header_size, *sender, rest))
 }
@@ -84,166 +71,150 @@ fn words_for(flag: Flag) -> u8
 }
 
 // What every header keeps to, on a channel.
-fn head_rows(head: Head, datagram: &[u8], channel: u16) -> Result<Head, Refusal>
-    ensures value { result ≡ first_of (head_rows channel datagram.now head) (Ok head) }
-    ensures sized { IfOk result (λ h. (5 ≤ h.header_size) × (4 * h.header_size + 4 ≤ length datagram.now)) }
+#[tactic(auto, unfolding(crate::specs::Reading::sound_head))]
+fn sound_head(head: Head, datagram: &[u8], channel: u16) -> Result<Head, Refusal>
+    ensures value { result ≡ sound_head channel datagram.now head }
+    ensures words { IfOk result (λ h. 5 ≤ h.header_size) }
+    ensures room { IfOk result (λ h. 4 * h.header_size + trailer_size ≤ length datagram.now) }
 {
     if head.market != MARKET {
-        return Err(refused(Cause::Market, 4));
+        return Err(Refusal::new(Cause::Market, 4));
     }
     if head.channel != 0 && head.channel != channel {
-        return Err(refused(Cause::Channel, 6));
+        return Err(Refusal::new(Cause::Channel, 6));
     }
     let flag = head.flag;
-    if flag.reserved() != 0
-        || flag.message_type() > 1
-        || flag.compression() != 0
-        || flag.encryption() > 1
+    if flag.has_reserved_bits()
+        || flag.message_type().is_none()
+        || flag.is_compressed()
+        || flag.encryption().is_none()
     {
-        return Err(refused(Cause::FlagBits, 18));
+        return Err(Refusal::new(Cause::FlagBits, 18));
     }
     if head.header_size != words_for(flag)
         || datagram.len() < 4 * usize::from(head.header_size) + TRAILER
     {
-        return Err(refused(Cause::HeaderSize, 2));
+        return Err(Refusal::new(Cause::HeaderSize, 2));
     }
     Ok(head)
 }
 
-// A sequence number from 0 to the largest.
-fn number_of(seq: i64) -> Option<u64>
-    ensures value { result ≡ numbered seq }
-    ensures bound { IfSome result (λ n. n ≤ 4611686018427387903) }
-{
-    if seq < 0 || seq as u64 > MAX_NUMBER {
-        None
-    } else {
-        Some(seq as u64)
-    }
+// A datagram that is sound as a whole, and its head, which is sound.
+#[derive(Clone, Copy)]
+struct Frame<'a> {
+    head: Head,
+    datagram: &'a [u8],
+    ghost short: { length datagram.now ≤ max_datagram },
+    ghost words: { 5 ≤ head.header_size },
+    ghost room: { 4 * head.header_size + trailer_size ≤ length datagram.now },
 }
 
-fn control_rows(head: Head, datagram: &[u8]) -> Result<Reading, Refusal>
-    ensures value { result ≡ first_of (control_rows datagram.now head) (ok_or (control_kind head (numbered head.seq)) (refused_in datagram.now ControlShape)) }
-    ensures bounds { Bounds result datagram.now }
-{
-    let misshapen = refused(Cause::ControlShape, 6);
-    if datagram.len() != MIN_DATAGRAM || head.flag.0 != 0 {
-        return Err(misshapen);
+impl Frame<'_> {
+    // Where the coded body starts.
+    fn start(&self) -> usize
+        ensures { result ≡ 4 * self.now.head.header_size }
+    {
+        4 * usize::from(self.head.header_size)
     }
-    let Some(last) = number_of(head.seq) else {
-        return Err(misshapen);
-    };
-    let sender = head.sender;
-    if head.channel == 0 {
-        if last != 0 || head.count != 0 {
+
+    // Where the coded body ends.
+    fn end(&self) -> usize
+        ensures { result ≡ length self.now.datagram.now - trailer_size }
+    {
+        self.datagram.len() - TRAILER
+    }
+
+    // A heartbeat or a stream end.
+    #[tactic(auto, unfolding(crate::specs::Reading::control_of))]
+    fn control(&self) -> Result<Reading, Refusal>
+        ensures value { result ≡ control_of self.now.datagram.now self.now.head }
+        ensures bounds { Bounds result self.now.datagram.now }
+    {
+        let head = self.head;
+        let misshapen = Refusal::new(Cause::ControlShape, 6);
+        if self.datagram.len() != MIN_DATAGRAM || head.flag.0 != 0 {
             return Err(misshapen);
         }
-        return Ok(Reading::Heartbeat { sender });
+        let last = head.number().ok_or(misshapen)?;
+        let sender = head.sender;
+        if head.channel == 0 {
+            if last != 0 || head.count != 0 {
+                return Err(misshapen);
+            }
+            return Ok(Reading::Heartbeat { sender });
+        }
+        if head.count == 0 {
+            Ok(Reading::StreamHeartbeat { sender, last })
+        } else {
+            Ok(Reading::StreamEnd { sender, last })
+        }
     }
-    if head.count == 0 {
-        Ok(Reading::StreamHeartbeat { sender, last })
-    } else {
-        Ok(Reading::StreamEnd { sender, last })
+
+    // The first number of a packet.
+    #[tactic(auto, unfolding(crate::specs::Reading::first_number_of))]
+    fn first_number(&self) -> Result<u64, Refusal>
+        ensures value { result ≡ first_number_of self.now.datagram.now self.now.head }
+        ensures few { OnOk result (self.now.head.count ≤ max_messages) }
+        ensures first { IfOk result (λ n. 1 ≤ n) }
+        ensures last { IfOk result (λ n. n + self.now.head.count - 1 ≤ max_number) }
+    {
+        let head = self.head;
+        if head.count > MAX_MESSAGES {
+            return Err(Refusal::new(Cause::MessageCount, 16));
+        }
+        let flag = head.flag;
+        let is_application = matches!(flag.message_type(), Some(MessageType::Application));
+        if !is_application || !flag.is_by_number() || !flag.has_lengths() {
+            return Err(Refusal::new(Cause::DataFlag, 18));
+        }
+        let out_of_range = Refusal::new(Cause::NumberRange, 8);
+        let first = head.number().ok_or(out_of_range)?;
+        if first == 0 || first + u64::from(head.count) > MAX_NUMBER + 1 {
+            return Err(out_of_range);
+        }
+        Ok(first)
+    }
+
+    // The fragment's numbers, where the datagram is a fragment.
+    #[tactic(auto, unfolding(crate::specs::Reading::fragment_of))]
+    fn fragment(&self) -> Result<Option<Fragment>, Refusal>
+        ensures value { result ≡ fragment_of self.now.datagram.now self.now.head }
+        ensures bounds { IfOk result (λ f. FragmentBounds f (4 * self.now.head.header_size) (length self.now.datagram.now - trailer_size)) }
+    {
+        if !self.head.flag.is_fragmented() {
+            return Ok(None);
+        }
+        let total = u16::from_be_bytes(bytes_at(self.datagram, 20));
+        let number = u16::from_be_bytes(bytes_at(self.datagram, 22));
+        let is_empty = self.start() == self.end();
+        if !(1..=MAX_FRAGMENTS).contains(&total) || !(1..=total).contains(&number) || is_empty {
+            return Err(Refusal::new(Cause::Fragment, 20));
+        }
+        Ok(Some(Fragment { total, number }))
+    }
+
+    // The checksum of the plain body, which is the header's last word where the header has one.
+    fn checksum(&self) -> Option<u32>
+        ensures { result ≡ checksum_of self.now.datagram.now self.now.head }
+    {
+        let last_word = u32::from_be_bytes(bytes_at(self.datagram, self.start() - 4));
+        self.head.flag.has_checksum().then_some(last_word)
     }
 }
 
-fn number_rows(head: Head, datagram: &[u8]) -> Result<u64, Refusal>
-    ensures value { result ≡ first_of (data_rows datagram.now head) (ok_or (first_in_range (numbered head.seq) head.count) (refused_in datagram.now NumberRange)) }
-    ensures bounds { IfOk result (λ n. (1 ≤ n) × (n + head.count - 1 ≤ 4611686018427387903) × (head.count ≤ 819)) }
-{
-    if head.count > MAX_MESSAGES {
-        return Err(refused(Cause::MessageCount, 16));
-    }
-    let flag = head.flag;
-    if flag.message_type() != 1 || !flag.is_by_number() || !flag.has_lengths() {
-        return Err(refused(Cause::DataFlag, 18));
-    }
-    let Some(first) = number_of(head.seq) else {
-        return Err(refused(Cause::NumberRange, 8));
-    };
-    if first == 0 || first + u64::from(head.count) > MAX_NUMBER + 1 {
-        return Err(refused(Cause::NumberRange, 8));
-    }
-    Ok(first)
-}
-
-fn fragment_rows(head: Head, datagram: &[u8]) -> Result<Option<Fragment>, Refusal>
-    requires { (24 ≤ length datagram.now) × (4 * head.header_size + 4 ≤ length datagram.now) }
-    ensures value { result ≡ (if is_fragmented head.flag.0 then first_of (fragment_rows datagram.now head (fragment_numbers datagram.now)) (Ok (Some (fragment_numbers datagram.now))) else Ok None) }
-    ensures bounds { IfOk result (λ f. FragmentBounds f (4 * head.header_size) (length datagram.now - 4)) }
-{
-    if !head.flag.is_fragmented() {
-        return Ok(None);
-    }
-    let total = u16::from_be_bytes(bytes_at(datagram, 20));
-    let number = u16::from_be_bytes(bytes_at(datagram, 22));
-    let empty = datagram.len() == 4 * usize::from(head.header_size) + TRAILER;
-    if total == 0 || total > MAX_FRAGMENTS || number == 0 || number > total || empty {
-        return Err(refused(Cause::Fragment, 20));
-    }
-    Ok(Some(Fragment { total, number }))
-}
-
-fn checksum_of(head: Head, datagram: &[u8]) -> Option<u32>
-    requires { (5 ≤ head.header_size) × (4 * head.header_size + 4 ≤ length datagram.now) }
-    ensures { result ≡ checksum_of datagram.now head }
-{
-    if head.flag.has_checksum() {
-        Some(u32::from_be_bytes(bytes_at(datagram, 4 * usize::from(head.header_size) - 4)))
-    } else {
-        None
-    }
-}
-
-// The layers of reading, under the names by which the definition of a reading joins them.
-fn frame(datagram: &[u8]) -> Result<Head, Refusal>
-    ensures value { result ≡ frame_of datagram.now }
-    ensures sized { OnOk result ((24 ≤ length datagram.now) × (length datagram.now ≤ 1472)) }
-{
-    frame_rows(datagram)
-}
-
-fn sound_head(head: Head, datagram: &[u8], channel: u16) -> Result<Head, Refusal>
-    ensures value { result ≡ sound_head channel datagram.now head }
-    ensures sized { IfOk result (λ h. (5 ≤ h.header_size) × (4 * h.header_size + 4 ≤ length datagram.now)) }
-{
-    head_rows(head, datagram, channel)
-}
-
-fn control(head: Head, datagram: &[u8]) -> Result<Reading, Refusal>
-    ensures value { result ≡ control_of datagram.now head }
+/// What a datagram is read as on a channel, or the first of its refusals.
+#[tactic(auto, unfolding(crate::specs::Reading::reading_of))]
+pub fn read(datagram: &[u8], channel: u16) -> Result<Reading, Refusal>
+    ensures value { result ≡ reading_of channel datagram.now }
     ensures bounds { Bounds result datagram.now }
 {
-    control_rows(head, datagram)
-}
-
-fn first_number(head: Head, datagram: &[u8]) -> Result<u64, Refusal>
-    ensures value { result ≡ first_number_of datagram.now head }
-    ensures bounds { IfOk result (λ n. (1 ≤ n) × (n + head.count - 1 ≤ 4611686018427387903) × (head.count ≤ 819)) }
-{
-    number_rows(head, datagram)
-}
-
-fn fragment_of(head: Head, datagram: &[u8]) -> Result<Option<Fragment>, Refusal>
-    requires { (24 ≤ length datagram.now) × (4 * head.header_size + 4 ≤ length datagram.now) }
-    ensures value { result ≡ fragment_of datagram.now head }
-    ensures bounds { IfOk result (λ f. FragmentBounds f (4 * head.header_size) (length datagram.now - 4)) }
-{
-    fragment_rows(head, datagram)
-}
-
-fn layers(datagram: &[u8], channel: u16) -> Result<Reading, Refusal>
-    ensures value { result ≡ layers_of channel datagram.now }
-    ensures bounds { Bounds result datagram.now }
-{
-    let framed = frame(datagram)?;
-    let head = sound_head(framed, datagram, channel)?;
-    if head.channel == 0 || head.count == 0 || head.count == STREAM_END {
-        return control(head, datagram);
+    let head = sound_head(framed_head(datagram)?, datagram, channel)?;
+    let frame = Frame { head, datagram };
+    if head.is_control() {
+        return frame.control();
     }
-    let first = first_number(head, datagram)?;
-    let fragment = fragment_of(head, datagram)?;
-    let checksum = checksum_of(head, datagram);
+    let first = frame.first_number()?;
+    let fragment = frame.fragment()?;
     Ok(Reading::Data(Packet {
         header_size: head.header_size,
         sender: head.sender,
@@ -251,16 +222,8 @@ fn layers(datagram: &[u8], channel: u16) -> Result<Reading, Refusal>
         count: head.count,
         flag: head.flag,
         fragment,
-        checksum,
-        start: 4 * usize::from(head.header_size),
-        end: datagram.len() - TRAILER,
+        checksum: frame.checksum(),
+        start: frame.start(),
+        end: frame.end(),
     }))
-}
-
-/// What a datagram is read as on a channel, or the first of its refusals.
-pub fn read(datagram: &[u8], channel: u16) -> Result<Reading, Refusal>
-    ensures value { result ≡ reading_of channel datagram.now }
-    ensures bounds { Bounds result datagram.now }
-{
-    layers(datagram, channel)
 }
