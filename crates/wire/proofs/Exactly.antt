@@ -1,6 +1,6 @@
 -- Splitting gives the messages of which a body is made, and no others.
 use Rattle.std.proofs.Common.{◌≡◌, ℕ, zero, suc, ◌+◌, ◌*◌, ◌<◌, ◌≤◌, Bool, true, false, cond, ◌||◌, eqb, ltb, List, [], ◌∷◌, ◌++◌, map, length, sum, get_or, take, drop, Some, None, Ok, Err, Option, sym, refl, ap, ◌∙◌, subst, append_assoc, arith, length-append, length-drop, take-add}
-use Rattle.std.proofs.lemmas.List.{take_at, drop_at, take-append-drop, length-take-le, get_or-drop}
+use Rattle.std.proofs.lemmas.List.{take_at, drop_at, take-append-drop, length-take-le, get_or-drop, get_or-map}
 use Rattle.std.proofs.lemmas.List.Sums.{sum_by-cons}
 use Rattle.std.proofs.lemmas.Bool.Decides.{nat_tests}
 use Rattle.base.specs.Areas.{Bytes}
@@ -121,20 +121,20 @@ length-lengths : (n : ℕ) (bytes : List ℕ) → length (lengths_of n bytes) �
 length-lengths zero bytes = refl
 length-lengths (suc n) bytes = ap suc (length-lengths n (drop 4 bytes))
 
-length_cut : (ns bytes : List ℕ) → length (cut ns bytes) ≡ length ns
+pub length_cut : (ns bytes : List ℕ) → length (cut ns bytes) ≡ length ns
 length_cut [] bytes = refl
 length_cut (n ∷ ns) bytes = ap suc (length_cut ns (drop n bytes))
 
-lengths-cut : (ns bytes : List ℕ) (k : ℕ) → sum ns ≤ length bytes → k < length ns → length (get_or (cut ns bytes) k []) ≡ get_or ns k 0
-lengths-cut [] bytes k h l = absurd (omega arith)
-lengths-cut (n ∷ ns) bytes zero h l = length-take-le n bytes (omega (arith, sum-cons n ns))
-lengths-cut (n ∷ ns) bytes (suc k) h l = lengths-cut ns (drop n bytes) k (omega (arith, length-drop n bytes, sum-cons n ns)) (omega arith)
-
-pub lengths_cut : (ns bytes : List ℕ) → sum ns ≡ length bytes → map length (cut ns bytes) ≡ ns
-lengths_cut [] bytes e = refl
-lengths_cut (n ∷ ns) bytes e =
+-- the lengths of the messages that bytes are cut into
+pub lengths_of_cut : (ns bytes : List ℕ) → sum ns ≤ length bytes → map length (cut ns bytes) ≡ ns
+lengths_of_cut [] bytes e = refl
+lengths_of_cut (n ∷ ns) bytes e =
     ap (λ k. k ∷ map length (cut ns (drop n bytes))) (length-take-le n bytes (omega (arith, sum-cons n ns)))
-    ∙ ap (λ l. n ∷ l) (lengths_cut ns (drop n bytes) (omega (arith, length-drop n bytes, sum-cons n ns)))
+    ∙ ap (λ l. n ∷ l) (lengths_of_cut ns (drop n bytes) (omega (arith, length-drop n bytes, sum-cons n ns)))
+
+length-at_cut : (ns bytes : List ℕ) (k : ℕ) → sum ns ≤ length bytes → k < length ns → length (get_or (cut ns bytes) k []) ≡ get_or ns k 0
+length-at_cut ns bytes k h l =
+    sym (get_or-map length (cut ns bytes) k [] 0 (omega (arith, length_cut ns bytes))) ∙ ap (λ xs. get_or xs k 0) (lengths_of_cut ns bytes h)
 
 pub joined-cut : (ns bytes : List ℕ) → sum ns ≡ length bytes → joined (cut ns bytes) ≡ bytes
 joined-cut [] [] e = refl
@@ -174,7 +174,7 @@ only count body ms b e =
       number = length_cut ns bytes ∙ n;
       sizes =
           λ k h.
-          let same = lengths-cut ns bytes k (omega arith) (omega arith) in
+          let same = length-at_cut ns bytes k (omega arith) (omega arith) in
           let size = f.1 k (omega arith) in
           (omega (arith, same, size.0), omega (arith, same, size.1));
       whole =
@@ -191,17 +191,17 @@ table_fits_lem count body ms t = omega (arith, length-table ms, length-append (t
 pub exact : (count : ℕ) (body : List ℕ) → Bytes body → Exact count body
 exact count body b = record { only = λ ms e. only count body ms b e; every = every count body }
 
--- a split by its first misfit, or where there is none
-pub split-misfit : (count i : ℕ) (body : List ℕ) → 4 * count ≤ length body → misfit (length body) 0 (4 * count) (lengths_of count body) ≡ Some i
+-- a split with a first misfit, and one with none
+pub split_misfit : (count i : ℕ) (body : List ℕ) → 4 * count ≤ length body → misfit (length body) 0 (4 * count) (lengths_of count body) ≡ Some i
     → split_of count body ≡ Err (record { cause = MessageLengths; value = i })
 unfolding split_of
-split-misfit count i body h e = ap (λ o. cut_unless o (cut (lengths_of count body) (drop (4 * count) body))) (long_test (length body) (4 * count) (Some 1) _ h ∙ e)
+split_misfit count i body h e = ap (λ o. cut_unless o (cut (lengths_of count body) (drop (4 * count) body))) (long_test (length body) (4 * count) (Some 1) _ h ∙ e)
 
-pub split-fits : (count : ℕ) (body : List ℕ) → 4 * count ≤ length body → misfit (length body) 0 (4 * count) (lengths_of count body) ≡ None
+pub split_fits : (count : ℕ) (body : List ℕ) → 4 * count ≤ length body → misfit (length body) 0 (4 * count) (lengths_of count body) ≡ None
     → split_of count body ≡ Ok (cut (lengths_of count body) (drop (4 * count) body))
 unfolding split_of
-split-fits count body h e = ap (λ o. cut_unless o (cut (lengths_of count body) (drop (4 * count) body))) (long_test (length body) (4 * count) (Some 1) _ h ∙ e)
+split_fits count body h e = ap (λ o. cut_unless o (cut (lengths_of count body) (drop (4 * count) body))) (long_test (length body) (4 * count) (Some 1) _ h ∙ e)
 
-pub split-whole : (count : ℕ) (body : List ℕ) → 4 * count ≤ length body → misfit (length body) 0 (4 * count) (lengths_of count body) ≡ None
+pub sum_lengths : (count : ℕ) (body : List ℕ) → 4 * count ≤ length body → misfit (length body) 0 (4 * count) (lengths_of count body) ≡ None
     → sum (lengths_of count body) ≡ length (drop (4 * count) body)
-split-whole count body h e = omega (arith, length-drop (4 * count) body, (filling (lengths_of count body) (length body) 0 (4 * count) e).0)
+sum_lengths count body h e = omega (arith, length-drop (4 * count) body, (filling (lengths_of count body) (length body) 0 (4 * count) e).0)

@@ -15,6 +15,10 @@ abbrev pub cut : List ℕ → List ℕ → List (List ℕ)
 cut [] bytes = []
 cut (n ∷ ns) bytes = take n bytes ∷ cut ns (drop n bytes)
 
+-- where a message of `n` bytes ends in `size` bytes, if it starts at `at` and has its place
+abbrev pub end_at : ℕ → ℕ → ℕ → Option ℕ
+end_at size at n = cond (n == 0 || (nat_lt max_message n || nat_lt size (at + n))) None (Some (at + n))
+
 -- The first message without a place in `size` bytes, by its index from 1, where `i` messages went before and the next
 -- starts at `at`: one that is empty, too long or goes past the end; the last, where bytes remain behind it.
 abbrev pub misfit : ℕ → ℕ → ℕ → List ℕ → Option ℕ

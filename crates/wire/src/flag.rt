@@ -1,20 +1,21 @@
 // The Flag word of a header, by its bits.
 ghost use Rattle.std.specs.Prelude.{◌≡◌, ◌==◌, nat_lt, not, is_none};
 ghost use Rattle.wire.specs.Flags.{message_type, type_numbered, is_by_number, compression, encryption, encryption_numbered, has_lengths, is_fragmented, has_checksum, reserved, is_sealed};
+ghost use Rattle.wire.specs.Reading.{words_for};
 
 /// The Flag word of a header.
 #[derive(Clone, Copy)]
 pub struct Flag(pub u16);
 
 // What the messages of a datagram are for.
-#[derive(Clone, Copy)]
+#[derive(Clone, Copy, PartialEq, Eq)]
 pub(crate) enum MessageType {
     Management,
     Application,
 }
 
 // How a body is encrypted.
-#[derive(Clone, Copy)]
+#[derive(Clone, Copy, PartialEq, Eq)]
 pub(crate) enum Encryption {
     Plain,
     Token,
@@ -81,10 +82,17 @@ impl Flag {
         self.0 % 32 != 0
     }
 
+    // The words of a header: five, one more for the fragment's numbers and one more for the body's checksum.
+    pub(crate) fn header_words(self) -> u8
+        ensures { result ≡ words_for self.0 }
+    {
+        5 + u8::from(self.is_fragmented()) + u8::from(self.has_checksum())
+    }
+
     /// Whether the body is sealed under the channel's token.
     pub fn is_sealed(self) -> bool
         ensures { result ≡ is_sealed self.0 }
     {
-        matches!(self.encryption(), Some(Encryption::Token))
+        self.encryption() == Some(Encryption::Token)
     }
 }

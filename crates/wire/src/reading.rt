@@ -5,7 +5,7 @@ ghost use Rattle.base.specs.Fields.{be};
 ghost use Rattle.base.specs.Limits.{max_number, max_datagram, max_messages, trailer_size};
 ghost use Rattle.wire.specs.Bounds.{Bounds, FragmentBounds};
 ghost use Rattle.wire.specs.Header.{head_of};
-ghost use Rattle.wire.specs.Reading.{frame_of, sound_head, words_for, control_of, first_number_of, fragment_of, checksum_of, reading_of};
+ghost use Rattle.wire.specs.Reading.{frame_of, sound_head, control_of, first_number_of, fragment_of, checksum_of, reading_of};
 
 use crate::datagram::{Fragment, MARKET, PROTOCOL, Packet, Reading, VERSION};
 use crate::fields::bytes_at;
@@ -64,12 +64,6 @@ fn framed_head(datagram: &[u8]) -> Result<Head, Refusal>
     Ok(head_of(*header_size, *sender, rest))
 }
 
-fn words_for(flag: Flag) -> u8
-    ensures { result ≡ words_for flag.0 }
-{
-    5 + u8::from(flag.is_fragmented()) + u8::from(flag.has_checksum())
-}
-
 // What every header keeps to, on a channel.
 #[tactic(auto, unfolding(crate::specs::Reading::sound_head))]
 fn sound_head(head: Head, datagram: &[u8], channel: u16) -> Result<Head, Refusal>
@@ -91,7 +85,7 @@ fn sound_head(head: Head, datagram: &[u8], channel: u16) -> Result<Head, Refusal
     {
         return Err(Refusal::new(Cause::FlagBits, 18));
     }
-    if head.header_size != words_for(flag)
+    if head.header_size != flag.header_words()
         || datagram.len() < 4 * usize::from(head.header_size) + TRAILER
     {
         return Err(Refusal::new(Cause::HeaderSize, 2));
@@ -137,16 +131,11 @@ impl Frame<'_> {
         }
         let last = head.number().ok_or(misshapen)?;
         let sender = head.sender;
-        if head.channel == 0 {
-            if last != 0 || head.count != 0 {
-                return Err(misshapen);
-            }
-            return Ok(Reading::Heartbeat { sender });
-        }
-        if head.count == 0 {
-            Ok(Reading::StreamHeartbeat { sender, last })
-        } else {
-            Ok(Reading::StreamEnd { sender, last })
+        match (head.channel, head.count) {
+            (0, 0) if last == 0 => Ok(Reading::Heartbeat { sender }),
+            (0, _) => Err(misshapen),
+            (_, 0) => Ok(Reading::StreamHeartbeat { sender, last }),
+            _ => Ok(Reading::StreamEnd { sender, last }),
         }
     }
 
@@ -163,7 +152,7 @@ impl Frame<'_> {
             return Err(Refusal::new(Cause::MessageCount, 16));
         }
         let flag = head.flag;
-        let is_application = matches!(flag.message_type(), Some(MessageType::Application));
+        let is_application = flag.message_type() == Some(MessageType::Application);
         if !is_application || !flag.is_by_number() || !flag.has_lengths() {
             return Err(Refusal::new(Cause::DataFlag, 18));
         }

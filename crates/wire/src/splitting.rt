@@ -1,9 +1,8 @@
 // Splitting a plain body into its messages.
-ghost use Rattle.std.specs.Prelude.{◌≡◌, ◌+◌, ◌≤◌, ◌||◌, IfSome, if◌then◌else◌, Some, None, ◌==◌, nat_lt};
+ghost use Rattle.std.specs.Prelude.{◌≡◌, ◌≤◌, IfSome};
 ghost use Rattle.base.specs.Fields.{be};
-ghost use Rattle.base.specs.Limits.{max_message};
 ghost use Rattle.wire.specs.Messages.{split_in};
-ghost use Rattle.wire.specs.Splitting.{split_of, Exact};
+ghost use Rattle.wire.specs.Splitting.{end_at, split_of, Exact};
 
 use crate::messages::Messages;
 use base::limits::MAX_MESSAGE;
@@ -12,7 +11,7 @@ use base::{Cause, Refusal};
 // Where a message ends in `size` bytes, if it starts at `at` and has its place.
 fn end_of(at: usize, length: [u8; 4], size: usize) -> Option<usize>
     requires { at ≤ size }
-    ensures value { result ≡ (if be 4 length 0 == 0 || (nat_lt max_message (be 4 length 0) || nat_lt size (at + be 4 length 0)) then None else Some (at + be 4 length 0)) }
+    ensures value { result ≡ end_at size at (be 4 length 0) }
     ensures bound { IfSome result (λ end. end ≤ size) }
 {
     let bytes = u32::from_be_bytes(length) as usize;
