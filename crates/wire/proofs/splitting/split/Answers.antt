@@ -14,7 +14,7 @@ returns-in_err-at-clause-value c =
 
 pub returns-then-at-body-clause-value : goal.returns-then-at-body-clause-value
 returns-then-at-body-clause-value c =
-    let refused = split_behind _ _ _ _ _ c.loop-i.invariant (omega arith) c.if-at-body.true in search rules
+    let refused = split_behind _ _ _ _ _ c.loop-i.invariant (omega arith) (omega arith) in search rules
 
 pub invariant_of-result : goal.invariant_of-result
 invariant_of-result c = let whole = sum_whole _ _ _ _ _ c.loop-i.invariant (omega arith) (omega arith) in search rules
