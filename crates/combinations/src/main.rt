@@ -2,7 +2,6 @@
 #![tactic(auto)]
 
 use anyhow::anyhow;
-use base::Refusal;
 use outlets::{ImageOutlet, Record, TableOutlet, image_fits, table_fits};
 use parts::{Outlet, Shelf};
 use rows::Row;
@@ -24,10 +23,7 @@ const IMAGE_BYTES: usize = 7 + 17 * ENTRIES + MESSAGE_BYTES;
 fn hold<S: Shelf>(rt: HostRuntime, shelf: &mut S, first: u64, body: &[u8]) -> io::Result<()> {
     match shelf.put(first, 1, body) {
         Ok(()) => println!(rt; "held {first}"),
-        Err(Refusal { cause, value }) => println!(rt;
-            "not held {first}: {} {value}",
-            cause.number()
-        ),
+        Err(refusal) => println!(rt; "not held {first}: {refusal}"),
     }
 }
 
@@ -40,7 +36,7 @@ fn pass<S: Shelf, O: Outlet>(rt: HostRuntime, shelf: &mut S, outlet: &mut O) -> 
             outlet.bytes_left()
         ),
         Ok(None) => println!(rt; "nothing is held"),
-        Err(Refusal { cause, value }) => println!(rt; "not passed: {} {value}", cause.number()),
+        Err(refusal) => println!(rt; "not passed: {refusal}"),
     }
 }
 
@@ -68,9 +64,8 @@ fn over_both_outlets<S: Shelf>(
     let mut records = [Record::Closed(0); ENTRIES];
     let mut area = [0; MESSAGE_BYTES];
     let mut memory = [0; IMAGE_BYTES];
-    if table_fits(records.len()).is_err() || image_fits(memory.len(), ENTRIES).is_err() {
-        return Err(anyhow!("the memory does not fit an outlet"));
-    }
+    table_fits(records.len()).map_err(|_| anyhow!("the memory does not fit an outlet"))?;
+    image_fits(memory.len(), ENTRIES).map_err(|_| anyhow!("the memory does not fit an outlet"))?;
     println!(rt; "with a table")?;
     let mut table = TableOutlet::new(&mut records, &mut area);
     script(rt, shelf, &mut table)?;
@@ -93,9 +88,7 @@ fn main(rt: HostRuntime) -> anyhow::Result<()> {
     let mut other_rows = [empty; PLACES];
     let mut bytes = [0; SHELF_BYTES];
     let mut other_bytes = [0; SHELF_BYTES];
-    if shelf_fits(rows.len(), bytes.len()).is_err() {
-        return Err(anyhow!("the memory does not fit a shelf"));
-    }
+    shelf_fits(rows.len(), bytes.len()).map_err(|_| anyhow!("the memory does not fit a shelf"))?;
     println!(rt; "rows in order")?;
     let mut ordered = OrderedShelf::new(&mut rows, &mut bytes);
     let mut other_ordered = OrderedShelf::new(&mut other_rows, &mut other_bytes);

@@ -20,12 +20,8 @@ pub fn pass_lowest<S: Shelf, O: Outlet>(
     let Some(first) = shelf.lowest() else {
         return Ok(None);
     };
-    let found = shelf.read(first, buffer)?;
-    let Some(sizes) = found else { unreachable() };
-    let length = sizes.length;
-    if let Err(refusal) = outlet.put(Entry::delivered(first, &buffer[..length])) {
-        return Err(refusal);
-    }
+    let sizes = shelf.read(first, buffer)?.unwrap();
+    outlet.put(Entry::delivered(first, &buffer[..sizes.length]))?;
     let _ = shelf.take(first);
     Ok(Some(first))
 }

@@ -8,11 +8,11 @@ use Rattle.base.specs.Limits.{max_entries}
 use Rattle.base.specs.Fields.{be, be_bytes}
 use Rattle.base.proofs.Fields.{be-be_bytes}
 use Rattle.parts.specs.Entries.{Entry, delivered, missing, made_up, written_off, closed, letter_of, message_of, numbers_of, cost_of, costs_of, numbers_fit, head_of}
-use Rattle.parts.specs.Listings.{with_entry}
+use Rattle.parts.specs.Listings.{fits, with_entry}
 use Rattle.outlets.specs.Images.{mark, version, zeros, heads_of, messages_of, messages_at, image_of}
 use Rattle.outlets.specs.Looks.{look_answer, allowed, image_fits}
 use Rattle.outlets.specs.Reading.{entry_by, first_in, entries_from, entries_in, listing_of, all_fit, Holds, Within}
-use Rattle.parts.proofs.Listed.{costs_push}
+use Rattle.parts.proofs.Listed.{costs_push, room_space}
 use Rattle.base.proofs.Areas.{written, length-written, written_over}
 
 heads_push : (es : List Entry) (e : Entry) → heads_of (es ++ (e ∷ [])) ≡ heads_of es ++ head_of e
@@ -137,7 +137,13 @@ module _ (capacity size : ℕ) (es : List Entry) (e : Entry) (room : length es <
 
 -- an entry written behind the others
 module _ (m : List ℕ) (capacity count used : ℕ) (e : Entry) (holds : Holds m capacity count used) (within : Within m capacity count used)
-    (fit : numbers_fit e ≡ true) (room : count < capacity) (space : messages_at capacity + used + cost_of e ≤ length m) where
+    (fit : numbers_fit e ≡ true) (fits-e : fits (listing_of m capacity count used) e ≡ true) where
+  room : count < capacity
+  room = omega (arith, (room_space (listing_of m capacity count used) e fits-e).0)
+
+  space : messages_at capacity + used + cost_of e ≤ length m
+  space = omega (arith, within.3, (room_space (listing_of m capacity count used) e fits-e).1)
+
   append_is : (m' : List ℕ) → m' ≡ written_at (written_at (written_at m (7 + 17 * count) (head_of e)) (messages_at capacity + used) (message_of e)) 5 (be_bytes 2 (count + 1))
       → length m' ≡ length m
       → (Holds m' capacity (count + 1) (used + cost_of e) × Within m' capacity (count + 1) (used + cost_of e))
@@ -150,13 +156,13 @@ module _ (m : List ℕ) (capacity count used : ℕ) (e : Entry) (holds : Holds m
       let all : all_fit es' ≡ true = fit_push es e holds.1 fit in
       let image : m' ≡ image_of capacity (length m) es' =
       is ∙ (λ i. written_at (written_at (written_at (holds.0 i) (7 + 17 * sym holds.2 i) (head_of e)) (messages_at capacity + sym holds.3 i) (message_of e)) 5 (be_bytes 2 (sym holds.2 i + 1)))
-      ∙ image_push capacity (length m) es e (omega (arith, holds.2)) (omega (arith, holds.3)) in
+      ∙ image_push capacity (length m) es e (omega (arith, holds.2, room)) (omega (arith, holds.3, space)) in
       let entries : entries_in m' capacity (count + 1) ≡ es' =
-      (λ i. entries_in (image i) capacity (sym count-is i)) ∙ entries-image capacity (length m) es' (omega (arith, count-is)) all in
+      (λ i. entries_in (image i) capacity (sym count-is i)) ∙ entries-image capacity (length m) es' (omega (arith, count-is, room)) all in
       let holds-image : m' ≡ image_of capacity (length m') (entries_in m' capacity (count + 1)) = image ∙ (λ i. image_of capacity (sym long i) (sym entries i)) in
-      let entries_left : capacity - (count + 1) ≡ (capacity - count) - 1 = omega arith in
-      let bytes_left : length m' - (messages_at capacity + (used + cost_of e)) ≡ (length m - (messages_at capacity + used)) - cost_of e = omega arith in (
-        ((holds-image, ap all_fit entries ∙ all, ap length entries ∙ count-is, ap costs_of entries ∙ used-is), (omega (arith, within), omega (arith, within), omega arith, omega arith)),
+      let entries_left : capacity - (count + 1) ≡ (capacity - count) - 1 = omega (arith, room) in
+      let bytes_left : length m' - (messages_at capacity + (used + cost_of e)) ≡ (length m - (messages_at capacity + used)) - cost_of e = omega (arith, space) in (
+        ((holds-image, ap all_fit entries ∙ all, ap length entries ∙ count-is, ap costs_of entries ∙ used-is), (omega (arith, within), omega (arith, within), omega (arith, room), omega (arith, space))),
         λ i. record { entries = entries i; entries_left = entries_left i; bytes_left = bytes_left i },
       )
 
@@ -168,10 +174,10 @@ module _ (m : List ℕ) (capacity count used : ℕ) (e : Entry) (holds : Holds m
       → (Holds m₃ capacity (count + 1) (used + length message) × Within m₃ capacity (count + 1) (used + length message))
       × (listing_of m₃ capacity (count + 1) (used + length message) ≡ with_entry (listing_of m capacity count used) e)
   append_leaves head message number m₁ m₂ m₃ start h msg n s e₁ e₂ e₃ =
-      let fits₁ : 7 + 17 * count + length head ≤ length m = omega (arith, ap length h, within) in
+      let fits₁ : 7 + 17 * count + length head ≤ length m = omega (arith, ap length h, within, room) in
       let w₁ = written m (7 + 17 * count) head fits₁ m₁ e₁ in
       let long₁ : length m₁ ≡ length m = ap length w₁ ∙ length-written m (7 + 17 * count) head fits₁ in
-      let fits₂ : start + used + length message ≤ length m₁ = omega (arith, ap length msg) in
+      let fits₂ : start + used + length message ≤ length m₁ = omega (arith, space, ap length msg) in
       let w₂ = written m₁ (start + used) message fits₂ m₂ e₂ in
       let long₂ : length m₂ ≡ length m₁ = ap length w₂ ∙ length-written m₁ (start + used) message fits₂ in
       let fits₃ : 5 + length number ≤ length m₂ = omega (arith, ap length n) in

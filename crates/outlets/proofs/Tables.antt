@@ -1,17 +1,17 @@
 -- One record more.
-use Rattle.std.proofs.Common.{◌≡◌, ℕ, zero, suc, ◌+◌, ◌-◌, ◌<◌, ◌≤◌, true, cond, leb, List, [], ◌∷◌, ◌++◌, map, length, get_or, take, drop, set, Some, None, sym, refl, ap, ◌∙◌, arith, length-drop, length-set, take-append-drop}
-use Rattle.std.proofs.lemmas.List.{length-take-le, take-append-le, drop-append-le, take_at, drop_at, take_more_set, map_push, get_or-map, get_or-take}
-use Rattle.std.proofs.lemmas.Option.{slice_get_past, slice_get-get_or}
+use Rattle.std.proofs.Common.{◌≡◌, ℕ, zero, suc, ◌+◌, ◌-◌, ◌<◌, ◌≤◌, true, cond, leb, List, [], ◌∷◌, ◌++◌, map, length, get_or, take, drop, set, Some, sym, refl, ap, ◌∙◌, arith, length-drop, length-set, take-append-drop}
+use Rattle.std.proofs.lemmas.List.{length-take-le, take-append-le, drop-append-le, take_at, drop_at, take_more_set, map_push, get_or-map, length-map}
+use Rattle.std.proofs.lemmas.Option.{slice_get-get_or}
 use Rattle.std.specs.List.{slice_get}
 use Rattle.std.proofs.lemmas.Bool.{leb-true, le-leb, and_parts, and_from}
 use Rattle.base.specs.Areas.{written_at}
 use Rattle.parts.specs.Entries.{Entry, delivered, missing, made_up, written_off, closed, cost_of, message_of}
-use Rattle.parts.specs.Listings.{with_entry}
-use Rattle.outlets.specs.Tables.{part_of, entry_by, record_of, listing_of, ends_by, all_end_by, Sound, length-entries}
+use Rattle.parts.specs.Listings.{fits, with_entry}
+use Rattle.outlets.specs.Tables.{Record, part_of, entry_by, record_of, listing_of, ends_by, all_end_by, Sound}
 use Rattle.base.proofs.Areas.{length-written, written}
+use Rattle.parts.proofs.Listed.{room_space}
 use Rattle.outlets.specs.declared.table.records.Span.{Span}
-use Rattle.outlets.specs.declared.table.records.Record.{Record}
-use Rattle.outlets.specs.declared.table.records.Record.TheVariants.{Delivered, Missing, MadeUp, WrittenOff, Closed}
+use Rattle.parts.specs.declared.entry.Entry.TheVariants.{Delivered, Missing, MadeUp, WrittenOff, Closed}
 
 -- a part that ends within a front does not depend on what stands behind
 part-front : (front back : List ℕ) (s : Span) → s.start + s.len ≤ length front → part_of (front ++ back) s ≡ part_of front s
@@ -77,8 +77,13 @@ ends_push from to le (x ∷ rs) r h new =
     and_from (ends_by to x) (all_end_by to (rs ++ (r ∷ []))) (ends_later from to le x both.0) (ends_push from to le rs r both.1 new)
 
 -- an entry kept behind the others
-module _ (records : List Record) (used : ℕ) (area : List ℕ) (filled : ℕ) (e : Entry) (sound : Sound records used area filled) (room : used < length records)
-    (space : filled + cost_of e ≤ length area) where
+module _ (records : List Record) (used : ℕ) (area : List ℕ) (filled : ℕ) (e : Entry) (sound : Sound records used area filled) (fit : fits (listing_of records used area filled) e ≡ true) where
+  room : used < length records
+  room = omega (arith, (room_space (listing_of records used area filled) e fit).0)
+
+  space : filled + cost_of e ≤ length area
+  space = omega (arith, sound.3, (room_space (listing_of records used area filled) e fit).1)
+
   append_is : Sound (set records used (record_of e (record { start = filled; len = cost_of e }))) (used + 1) (written_at area filled (message_of e)) (filled + cost_of e)
       × (listing_of (set records used (record_of e (record { start = filled; len = cost_of e }))) (used + 1) (written_at area filled (message_of e)) (filled + cost_of e)
       ≡ with_entry (listing_of records used area filled) e)
@@ -94,9 +99,9 @@ module _ (records : List Record) (used : ℕ) (area : List ℕ) (filled : ℕ) (
       let entries : map (entry_by area') (take (used + 1) (set records used new)) ≡ map (entry_by area) (take used records) ++ (e ∷ []) =
       ap (map (entry_by area')) push ∙ map_push (entry_by area') (take used records) new
       ∙ (λ i. entries-kept area filled (message_of e) within (take used records) sound.4 i ++ (entry_new area filled within e i ∷ [])) in
-      let entries_left : length (set records used new) - (used + 1) ≡ (length records - used) - 1 = omega arith in
-      let bytes_left : length area' - (filled + cost_of e) ≡ (length area - filled) - cost_of e = omega arith in
-      ((omega (arith, sound), omega (arith, sound), omega arith, omega arith, ends), λ i. record { entries = entries i; entries_left = entries_left i; bytes_left = bytes_left i })
+      let entries_left : length (set records used new) - (used + 1) ≡ (length records - used) - 1 = omega (arith, room) in
+      let bytes_left : length area' - (filled + cost_of e) ≡ (length area - filled) - cost_of e = omega (arith, space) in
+      ((omega (arith, sound), omega (arith, sound), omega (arith, room), omega (arith, space), ends), λ i. record { entries = entries i; entries_left = entries_left i; bytes_left = bytes_left i })
 
   -- with the values that the code has
   pub append_leaves : (message area' : List ℕ) (new : Record) → message ≡ message_of e → new ≡ record_of e (record { start = filled; len = length message })
@@ -104,7 +109,7 @@ module _ (records : List Record) (used : ℕ) (area : List ℕ) (filled : ℕ) (
       → Sound (set records used new) (used + 1) area' (filled + length message)
       × (listing_of (set records used new) (used + 1) area' (filled + length message) ≡ with_entry (listing_of records used area filled) e)
   append_leaves message area' new m n a =
-      rw (written area filled message (omega (arith, ap length m)) area' a, n, m) append_is
+      rw (written area filled message (omega (arith, space, ap length m)) area' a, n, m) append_is
 
 -- the entry at a place
 all_end_at : (filled : ℕ) (rs : List Record) (k : ℕ) (d : Record) → all_end_by filled rs ≡ true → k < length rs → ends_by filled (get_or rs k d) ≡ true
@@ -112,19 +117,12 @@ all_end_at filled [] k d h lt = absurd (omega arith)
 all_end_at filled (r ∷ rs) zero d h lt = (and_parts (ends_by filled r) (all_end_by filled rs) h).0
 all_end_at filled (r ∷ rs) (suc k) d h lt = all_end_at filled rs k d (and_parts (ends_by filled r) (all_end_by filled rs) h).1 (omega arith)
 
-module _ (records : List Record) (used : ℕ) (area : List ℕ) (filled : ℕ) (i : ℕ) (sound : Sound records used area filled) where
-  pub entry_past : used ≤ i → slice_get (map (entry_by area) (take used records)) i ≡ None
-  entry_past past = slice_get_past (map (entry_by area) (take used records)) i (omega (arith, length-entries records used area sound.2))
+module _ (records : List Record) (used : ℕ) (area : List ℕ) (filled : ℕ) (i : ℕ) (sound : Sound records used area filled)
+    (r : Record) (lt : i < length (take used records)) (is : r ≡ get_or (take used records) i r) where
+  pub ends_at : ends_by (length area) r ≡ true
+  ends_at = ends_later filled (length area) sound.3 r (ap (ends_by filled) is ∙ all_end_at filled (take used records) i r sound.4 lt)
 
-  module _ (d : Record) (lt : i < used) where
-    pub ends_at : ends_by (length area) (get_or records i d) ≡ true
-    ends_at =
-        let long = length-take-le used records sound.2 in
-        let there : ends_by filled (get_or (take used records) i d) ≡ true = all_end_at filled (take used records) i d sound.4 (omega arith) in
-        ends_later filled (length area) sound.3 (get_or records i d) (ap (ends_by filled) (sym (get_or-take used records i d lt)) ∙ there)
-
-    pub entry_at : slice_get (map (entry_by area) (take used records)) i ≡ Some (entry_by area (get_or records i d))
-    entry_at =
-        let long = length-take-le used records sound.2 in
-        slice_get-get_or (map (entry_by area) (take used records)) i (closed 0) (omega (arith, length-entries records used area sound.2))
-        ∙ ap Some (get_or-map (entry_by area) (take used records) i d (closed 0) (omega arith) ∙ ap (entry_by area) (get_or-take used records i d lt))
+  pub entry_at : slice_get (map (entry_by area) (take used records)) i ≡ Some (entry_by area r)
+  entry_at =
+      slice_get-get_or (map (entry_by area) (take used records)) i (closed 0) (omega (arith, length-map (take used records) (entry_by area)))
+      ∙ ap Some (get_or-map (entry_by area) (take used records) i r (closed 0) lt ∙ ap (entry_by area) (sym is))

@@ -6,8 +6,12 @@ use Rattle.base.specs.Limits.{max_entries}
 use Rattle.parts.specs.Entries.{Entry, delivered, missing, made_up, written_off, closed}
 use Rattle.parts.specs.Listings.{Listing, Capacity}
 use Rattle.outlets.specs.declared.table.records.Span.{Span}
-use Rattle.outlets.specs.declared.table.records.Record.{Record}
-use Rattle.outlets.specs.declared.table.records.Record.TheVariants.{Delivered, Missing, MadeUp, WrittenOff, Closed}
+use Rattle.parts.specs.declared.entry.Entry.{Entry as Given}
+use Rattle.parts.specs.declared.entry.Entry.TheVariants.{Delivered, Missing, MadeUp, WrittenOff, Closed}
+
+-- An entry of the code, with its message bytes as a part of the area.
+abbrev pub Record : Type 0
+Record = Given Span
 
 abbrev pub part_of : List ℕ → Span → List ℕ
 part_of area s = take s.len (drop s.start area)

@@ -5,19 +5,14 @@ mod calls;
 
 pub use calls::image_fits;
 
-// The lent memory, for how many entries it has heads, and how many entries and message bytes it holds.
-#[derive(Drop)]
-struct Lent<'a> {
-    bytes: &'a mut [u8],
-    capacity: usize,
-    count: usize,
-    used: usize,
-}
-
-/// An outlet that is a file image in lent memory.
+/// An outlet that is a file image in lent memory. Beside the memory it has for how many entries there are heads, and how
+/// many entries and message bytes it holds.
 #[derive(Drop)]
 pub struct ImageOutlet<'a> {
-    lent: Lent<'a>,
-    ghost holds: { Holds lent.bytes.now lent.capacity lent.count lent.used },
-    ghost within: { Within lent.bytes.now lent.capacity lent.count lent.used },
+    bytes: &'a mut [u8],
+    capacity: usize,
+    count: u16,
+    used: usize,
+    ghost holds: { Holds bytes.now capacity count used },
+    ghost within: { Within bytes.now capacity count used },
 }

@@ -2,6 +2,8 @@
 #![tactic(auto)]
 
 pub mod image;
+mod looks;
+mod room;
 pub mod table;
 
 pub use image::{ImageOutlet, image_fits};

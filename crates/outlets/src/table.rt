@@ -7,18 +7,12 @@ mod records;
 pub use calls::table_fits;
 pub use records::{Record, Span};
 
-// The lent records and area, and how much of each is in use.
+/// An outlet over a lent table of records and a lent area of bytes, with how much of each is in use.
 #[derive(Drop)]
-struct Lent<'a> {
+pub struct TableOutlet<'a> {
     records: &'a mut [Record],
     used: usize,
     area: &'a mut [u8],
     filled: usize,
-}
-
-/// An outlet over a lent table of records and a lent area of bytes.
-#[derive(Drop)]
-pub struct TableOutlet<'a> {
-    lent: Lent<'a>,
-    ghost sound: { Sound lent.records.now lent.used lent.area.now lent.filled },
+    ghost sound: { Sound records.now used area.now filled },
 }

@@ -1,7 +1,7 @@
 -- What comes of putting an entry, over plain listings.
-use Rattle.std.proofs.Common.{◌≡◌, ℕ, ◌+◌, ◌-◌, ◌≤◌, Bool, true, false, cond, leb, List, [], ◌∷◌, ◌++◌, length, Ok, Err, Result, sym, refl, ap, ◌∙◌, arith}
+use Rattle.std.proofs.Common.{◌≡◌, ℕ, ◌+◌, ◌-◌, ◌≤◌, Bool, true, false, cond, leb, List, [], ◌∷◌, ◌++◌, length, Ok, Err, Result, refl, arith}
 use Rattle.std.proofs.lemmas.List.{length_push}
-use Rattle.std.proofs.lemmas.Bool.{leb-true, le-leb, and_parts, and_from, cond-true, cond_both}
+use Rattle.std.proofs.lemmas.Bool.{leb-true, and_parts}
 use Rattle.base.specs.declared.refusal.Cause.TheVariants.{OutletFull}
 use Rattle.base.specs.declared.refusal.Refusal.{Refusal}
 use Rattle.parts.specs.Entries.{Entry, cost_of, costs_of}
@@ -36,23 +36,16 @@ pub costs_push : (es : List Entry) (e : Entry) → costs_of (es ++ (e ∷ [])) �
 costs_push [] e = omega arith
 costs_push (x ∷ es) e = omega (arith, costs_push es e)
 
--- what was put and what is left stay the same in all
-listed-totals : (l : Listing) (e : Entry) → totals_of (listed l e) ≡ totals_of l
-listed-totals l e =
-    cond_both (fits l e) (with_entry l e) l (λ m. totals_of m ≡ totals_of l)
-    (λ fit.
+-- where an entry fits, there is room for it and space for its message
+pub room_space : (l : Listing) (e : Entry) → fits l e ≡ true → (1 ≤ l.entries_left) × (cost_of e ≤ l.bytes_left)
+room_space l e fit =
     let both = and_parts (leb 1 l.entries_left) (leb (cost_of e) l.bytes_left) fit in
-    let room = leb-true 1 l.entries_left both.0 in
-    let space = leb-true (cost_of e) l.bytes_left both.1 in
-    let entries : length (l.entries ++ (e ∷ [])) + (l.entries_left - 1) ≡ length l.entries + l.entries_left = omega (arith, length_push l.entries e) in
-    let bytes : costs_of (l.entries ++ (e ∷ [])) + (l.bytes_left - cost_of e) ≡ costs_of l.entries + l.bytes_left = omega (arith, costs_push l.entries e) in
-    λ i. (entries i, bytes i))
-    (λ _. refl)
+    (leb-true 1 l.entries_left both.0, leb-true (cost_of e) l.bytes_left both.1)
 
--- what comes of an entry that was kept
-pub kept : (l after : Listing) (e : Entry) → 1 ≤ l.entries_left → cost_of e ≤ l.bytes_left → after ≡ with_entry l e
-    → (Ok tt ≡ list_answer l e) × (after ≡ listed l e) × (totals_of after ≡ totals_of l)
-kept l after e room space with-e =
-    let fit : fits l e ≡ true = and_from (leb 1 l.entries_left) (leb (cost_of e) l.bytes_left) (le-leb _ _ room) (le-leb _ _ space) in
-    let is : after ≡ listed l e = with-e ∙ sym (cond-true _ _ _ fit) in
-    (sym (cond-true _ _ _ fit), is, ap totals_of is ∙ listed-totals l e)
+-- what was put and what is left stay the same in all
+pub with_entry_totals : (l : Listing) (e : Entry) → fits l e ≡ true → totals_of (with_entry l e) ≡ totals_of l
+with_entry_totals l e fit =
+    let there = room_space l e fit in
+    let entries : length (l.entries ++ (e ∷ [])) + (l.entries_left - 1) ≡ length l.entries + l.entries_left = omega (arith, there.0, length_push l.entries e) in
+    let bytes : costs_of (l.entries ++ (e ∷ [])) + (l.bytes_left - cost_of e) ≡ costs_of l.entries + l.bytes_left = omega (arith, there.1, costs_push l.entries e) in
+    λ i. (entries i, bytes i)

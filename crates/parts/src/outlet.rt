@@ -24,7 +24,7 @@ pub trait Outlet {
         ensures { result ≡ (length (listing self.now).entries == 0) };
 
     /// Puts an entry behind the others. It costs one entry and its message bytes.
-    fn put(&mut self, entry: Entry<'_>) -> Result<(), Refusal>
+    fn put(&mut self, entry: Entry<&[u8]>) -> Result<(), Refusal>
         ensures answer { result ≡ list_answer (listing self.old) (entry_of entry.entry) }
         ensures after { listing self.new ≡ listed (listing self.old) (entry_of entry.entry) }
         ensures totals { totals_of (listing self.new) ≡ totals_of (listing self.old) };

@@ -1,5 +1,7 @@
 // The records of a table.
 
+use parts::Entry;
+
 /// A part of the area of bytes.
 #[derive(Clone, Copy)]
 pub struct Span {
@@ -8,11 +10,4 @@ pub struct Span {
 }
 
 /// An entry, with its message bytes as a part of the area.
-#[derive(Clone, Copy)]
-pub enum Record {
-    Delivered(u64, Span),
-    Missing(u64, u64),
-    MadeUp(u64, Span),
-    WrittenOff(u64, u64),
-    Closed(u64),
-}
+pub type Record = Entry<Span>;

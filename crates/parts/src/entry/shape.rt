@@ -5,32 +5,32 @@ ghost use Rattle.parts.specs.Given.{entry_of};
 
 use super::Entry;
 
-impl<'a> Entry<'a> {
-    pub fn delivered(number: u64, message: &'a [u8]) -> Entry<'a>
+impl<'a> Entry<&'a [u8]> {
+    pub fn delivered(number: u64, message: &'a [u8]) -> Entry<&'a [u8]>
         ensures { entry_of result ≡ delivered number message.now }
     {
         Entry::Delivered(number, message)
     }
 
-    pub fn missing(first: u64, last: u64) -> Entry<'a>
+    pub fn missing(first: u64, last: u64) -> Entry<&'a [u8]>
         ensures { entry_of result ≡ missing first last }
     {
         Entry::Missing(first, last)
     }
 
-    pub fn made_up(number: u64, message: &'a [u8]) -> Entry<'a>
+    pub fn made_up(number: u64, message: &'a [u8]) -> Entry<&'a [u8]>
         ensures { entry_of result ≡ made_up number message.now }
     {
         Entry::MadeUp(number, message)
     }
 
-    pub fn written_off(first: u64, last: u64) -> Entry<'a>
+    pub fn written_off(first: u64, last: u64) -> Entry<&'a [u8]>
         ensures { entry_of result ≡ written_off first last }
     {
         Entry::WrittenOff(first, last)
     }
 
-    pub fn closed(number: u64) -> Entry<'a>
+    pub fn closed(number: u64) -> Entry<&'a [u8]>
         ensures { entry_of result ≡ closed number }
     {
         Entry::Closed(number)
@@ -54,11 +54,8 @@ impl<'a> Entry<'a> {
         ensures { result.now ≡ message_of (entry_of self.entry) }
     {
         match self {
-            Entry::Delivered(_, message) => message,
-            Entry::Missing(_, _) => &[],
-            Entry::MadeUp(_, message) => message,
-            Entry::WrittenOff(_, _) => &[],
-            Entry::Closed(_) => &[],
+            Entry::Delivered(_, message) | Entry::MadeUp(_, message) => message,
+            Entry::Missing(_, _) | Entry::WrittenOff(_, _) | Entry::Closed(_) => &[],
         }
     }
 
@@ -67,10 +64,8 @@ impl<'a> Entry<'a> {
         ensures { result ≡ numbers_of (entry_of self.entry) }
     {
         match self {
-            Entry::Delivered(n, message) => (n, message.len() as u64),
-            Entry::Missing(from, to) => (from, to),
-            Entry::MadeUp(n, message) => (n, message.len() as u64),
-            Entry::WrittenOff(from, to) => (from, to),
+            Entry::Delivered(n, message) | Entry::MadeUp(n, message) => (n, message.len() as u64),
+            Entry::Missing(from, to) | Entry::WrittenOff(from, to) => (from, to),
             Entry::Closed(n) => (n, 0),
         }
     }

@@ -1,11 +1,11 @@
-use Rattle.std.proofs.Common.{length, ap, arith}
+use Rattle.std.proofs.Common.{◌≡◌, true, ap, ◌∙◌, rules}
 use Rattle.parts.specs.Given.{entry_of}
+use Rattle.parts.specs.Listings.{fits, totals_of}
+use Rattle.parts.proofs.Listed.{with_entry_totals}
 use Rattle.outlets.specs.Meaning.{image_meaning}
-use Rattle.parts.proofs.Listed.{kept}
 use Rattle.outlets.proofs.image.calls.ImageOutletOutlet.put.Goals as goal
 
-pub returns : goal.returns
-returns c =
-    let is = kept (image_meaning c.args.self.now.lent) (image_meaning c.append.new.self) (entry_of c.args.entry) (omega arith) (omega (arith, ap length c.message.ensures))
-    c.append.ensures.listing in
-    record { answer = is.0; after = is.1; totals = is.2 }
+pub returns-clause-totals : goal.returns-clause-totals
+returns-clause-totals c =
+    let fit : fits (image_meaning c.args.self.now) (entry_of c.args.entry) ≡ true = search rules in
+    ap totals_of c.append.ensures ∙ with_entry_totals (image_meaning c.args.self.now) (entry_of c.args.entry) fit
