@@ -73,6 +73,7 @@ impl<'a> ImageOutlet<'a> {
         let head_at = HEADS_AT + HEAD * usize::from(self.count);
         let message_at = messages_at(self.capacity) + self.used;
         let count = self.count + 1;
+        // Lent once for the three writes, since the memory is no image between them.
         let bytes = &mut *self.bytes;
         let _ = write_at(bytes, head_at, &entry.head());
         let _ = write_at(bytes, message_at, message);

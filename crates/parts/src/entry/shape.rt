@@ -59,7 +59,7 @@ impl<'a> Entry<&'a [u8]> {
         }
     }
 
-    // The two numbers of its head.
+    // The two numbers of its head. There is no `From` of a `usize` for a `u64`.
     fn numbers(self) -> (u64, u64)
         ensures { result ≡ numbers_of (entry_of self.entry) }
     {
