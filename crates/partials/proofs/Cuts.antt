@@ -1,6 +1,8 @@
 -- Lengths, cuts and splices.
-use Rattle.std.proofs.Common.{◌≡◌, ℕ, zero, suc, ◌+◌, ◌<◌, ◌≤◌, true, not, ◌&&◌, eqb, List, [], ◌∷◌, ◌++◌, length, get_or, take, drop, set, sym, refl, ap, ◌∙◌, append_assoc, arith, length-append, length-drop}
-use Rattle.std.proofs.lemmas.List.{at_drop_more, at_drop_all, take_more, take_all, take-append-le, drop-append-le, take_at, drop_at, take-take, drop-drop, take-append-drop, length-take-le, append-nil, drop-take}
+use Rattle.std.proofs.Common.{◌≡◌, ℕ, zero, suc, ◌+◌, ◌<◌, ◌≤◌, List, [], ◌∷◌, ◌++◌, length, get_or, take, drop, set, sym, refl, ap, ◌∙◌, append_assoc, arith, length-append, length-drop}
+use Rattle.std.specs.List.{sum}
+use Rattle.std.proofs.lemmas.List.Sums.{sum_by-cons}
+use Rattle.std.proofs.lemmas.List.{take_all, take-append-le, drop-append-le, take_at, drop_at, take-take, drop-drop, take-append-drop, length-take-le, append-nil, drop-take}
 use Rattle.base.specs.Areas.{written_at}
 use Rattle.wire.specs.Joining.{joined_pieces}
 use Rattle.wire.specs.Splitting.{cut}
@@ -8,24 +10,17 @@ use Rattle.partials.specs.Joining.{all_there}
 use Rattle.partials.specs.Places.{sum_of, all_positive, spliced}
 use Rattle.base.proofs.Areas.{written_behind}
 
+-- as the library has it
+pub sum-is : (xs : List ℕ) → sum xs ≡ sum_of xs
+sum-is [] = refl
+sum-is (x ∷ xs) = let e = sum-is xs in let f = sum_by-cons (λ n. n) x xs in omega arith
+
 pub sum-append : (xs ys : List ℕ) → sum_of (xs ++ ys) ≡ sum_of xs + sum_of ys
 sum-append [] ys = omega arith
 sum-append (x ∷ xs) ys = let e = sum-append xs ys in omega arith
 
-pub sum_more : (xs : List ℕ) (i : ℕ) → i < length xs → sum_of (take (i + 1) xs) ≡ sum_of (take i xs) + get_or xs i 0
-sum_more xs i h = ap sum_of (take_more xs i 0 h) ∙ sum-append (take i xs) (get_or xs i 0 ∷ []) ∙ omega arith
-
-pub sum-whole : (xs : List ℕ) (i : ℕ) → length xs ≤ i → sum_of (take i xs) ≡ sum_of xs
-sum-whole xs i h = ap sum_of (take_all i xs h)
-
 pub sum-front : (xs : List ℕ) (k : ℕ) → sum_of (take k xs) ≤ sum_of xs
 sum-front xs k = let e = ap sum_of (take-append-drop k xs) in let f = sum-append (take k xs) (drop k xs) in omega arith
-
-pub positive_more : (xs : List ℕ) (i : ℕ) → i < length xs → all_positive (drop i xs) ≡ (not (eqb (get_or xs i 0) 0) && all_positive (drop (i + 1) xs))
-positive_more xs i h = at_drop_more all_positive xs i 0 h
-
-pub positive_all : (xs : List ℕ) (i : ℕ) → length xs ≤ i → all_positive (drop i xs) ≡ true
-positive_all xs i h = at_drop_all all_positive xs i h
 
 -- only the front counts
 pub cut-front : (lengths bs cs : List ℕ) → sum_of lengths ≤ length bs → cut lengths (bs ++ cs) ≡ cut lengths bs

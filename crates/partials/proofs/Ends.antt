@@ -8,9 +8,10 @@ use Rattle.base.specs.Limits.{body_room, max_fragments}
 use Rattle.base.specs.declared.refusal.Cause.TheVariants.{FragmentsTooLong}
 use Rattle.wire.specs.Joining.{joined_pieces}
 use Rattle.partials.specs.Joining.{kept, whole, max_partials, with_room, begun, with_piece, complete, all_there, refused_for, settled, join_found, join_at}
-use Rattle.partials.specs.Places.{sum_of, rotated, no_row, index_of, partial_for, partials_at, partials_in, count_by, has_place, misfit, Sound}
+use Rattle.partials.specs.Places.{sum_of, rotated, no_row, index_of, partial_for, partials_at, count_by, has_place, misfit, OwnPlaces}
+use Rattle.partials.specs.Tables.{partials_in}
 use Rattle.partials.specs.declared.head.PartialHead.{PartialHead}
-use Rattle.partials.specs.declared.table.Row.{Row}
+use Rattle.partials.specs.declared.table.row.Row.{Row}
 use Rattle.partials.specs.declared.table.Table.{Table}
 use Rattle.partials.proofs.Cuts.{sum-set}
 use Rattle.partials.proofs.Finds.{missed_at}
@@ -68,36 +69,32 @@ count-rotated f rows i len =
 map-removed : {X Y : Type 0} (f : X → Y) (xs : List X) (i : ℕ) → map f (remove xs i) ≡ remove (map f xs) i
 map-removed f xs i = map-append f (take i xs) (drop (suc i) xs) ∙ ap (λ l. l ++ map f (drop (suc i) xs)) (sym (take-map f i xs)) ∙ ap (λ l. take i (map f xs) ++ l) (sym (drop-map f (suc i) xs))
 
-pub removes : (memory : List ℕ) (rows rows' : List Row) (len i : ℕ) → Sound memory rows len → i < len → rows' ≡ rotated rows i len
-    → (partials_at memory rows' (len - 1) ≡ remove (partials_at memory rows len) i) × Sound memory rows' (len - 1)
-removes memory rows rows' len i s lt e =
-    let n = s.four in
-    let m = s.few in
-    let f = partial_for memory in
-    let g = front_rotated rows i len lt (omega arith) in
-    let q : (p : Row → Bool) → count_by p rows' ≡ count_by p rows = λ p. ap (count_by p) e ∙ count-rotated p rows i len in (
-      ap (λ l. take (len - 1) (map f l)) e ∙ take-map f (len - 1) (rotated rows i len) ∙ ap (map f) g ∙ map-removed f (take len rows) i ∙ ap (λ l. remove l i) (sym (take-map f len rows)),
-      record {
-        sized = s.sized;
-        four = ap length e ∙ length-rotated rows i len lt (omega arith) ∙ n;
-        few = omega arith;
-        fitting = q misfit ∙ s.fitting;
-        own = (q (has_place 0) ∙ s.own.0, q (has_place 1) ∙ s.own.1, q (has_place 2) ∙ s.own.2, q (has_place 3) ∙ s.own.3);
-      },
-    )
+-- the row at i taken out of use
+module _ (t : Table) (i : ℕ) (lt : i < t.len) where
+  pub length-removed : length (rotated t.rows i t.len) ≡ max_partials
+  length-removed = length-rotated t.rows i t.len lt (omega arith) ∙ t.four
 
-pub length-in : (memory : List ℕ) (rows : List Row) (len : ℕ) → Sound memory rows len → length (partials_at memory rows len) ≡ len
-length-in memory rows len s =
-    let n = s.four in
-    let m = s.few in
-    let l = length-map rows (partial_for memory) in
-    length-take-le len (map (partial_for memory) rows) (omega arith)
+  pub fitting-removed : count_by misfit (rotated t.rows i t.len) ≡ 0
+  fitting-removed = count-rotated misfit t.rows i t.len ∙ t.fitting
 
-pub room-none : (memory : List ℕ) (rows : List Row) (len : ℕ) → Sound memory rows len → len < max_partials → partials_at memory rows len ≡ with_room (partials_at memory rows len)
-room-none memory rows len s lt = let l = length-in memory rows len s in let t = lt-ltb (length (partials_at memory rows len)) max_partials (omega arith) in rw t
+  pub own-removed : OwnPlaces (rotated t.rows i t.len)
+  own-removed = let q = λ (p : ℕ). count-rotated (has_place p) t.rows i t.len in (q 0 ∙ t.own.0, q 1 ∙ t.own.1, q 2 ∙ t.own.2, q 3 ∙ t.own.3)
 
-pub room-one : (memory : List ℕ) (rows : List Row) (len : ℕ) → Sound memory rows len → max_partials ≤ len → remove (partials_at memory rows len) 0 ≡ with_room (partials_at memory rows len)
-room-one memory rows len s le = let l = length-in memory rows len s in let t = le-ltb (length (partials_at memory rows len)) max_partials (omega arith) in rw t
+  pub removes : partials_at t.memory.now (rotated t.rows i t.len) (t.len - 1) ≡ remove (partials_in t) i
+  removes =
+      let f = partial_for t.memory.now in
+      let g = front_rotated t.rows i t.len lt (omega arith) in
+      take-map f (t.len - 1) (rotated t.rows i t.len) ∙ ap (map f) g ∙ map-removed f (take t.len t.rows) i ∙ ap (λ l. remove l i) (sym (take-map f t.len t.rows))
+
+module _ (t : Table) where
+  pub length-in : length (partials_in t) ≡ t.len
+  length-in = let l = length-map t.rows (partial_for t.memory.now) in length-take-le t.len (map (partial_for t.memory.now) t.rows) (omega arith)
+
+  pub room-none : t.len < max_partials → partials_in t ≡ with_room (partials_in t)
+  room-none lt = let l = length-in in let w = lt-ltb (length (partials_in t)) max_partials (omega arith) in rw w
+
+  pub room-one : max_partials ≤ t.len → remove (partials_in t) 0 ≡ with_room (partials_in t)
+  room-one le = let l = length-in in let w = le-ltb (length (partials_in t)) max_partials (omega arith) in rw w
 
 -- a packet with its first piece
 joined-none : (n : ℕ) → joined_pieces (replicate n []) ≡ []
@@ -147,24 +144,27 @@ module _ (t : Table) (head : PartialHead) (k : ℕ) (piece : List ℕ) (e : inde
         ∙ ap (kept (with_room (partials_in t) ++ with_piece (begun head) k piece ∷ [])) is
 
 -- a packet that begins in the first spare row
-pub begins : (memory memory' piece : List ℕ) (rows rows' : List Row) (len : ℕ) (head : PartialHead) (lengths : List ℕ) (k place : ℕ) → Sound memory rows len → len < max_partials → k < max_fragments
-    → length piece ≤ body_room → lengths ≡ set (replicate max_fragments 0) k (length piece) → place ≡ (get_or rows len no_row).place → place < max_partials
-    → memory' ≡ written_at memory (body_room * place) piece → rows' ≡ set rows len (record { head = head; lengths = lengths; place = place })
-    → (partials_at memory' rows' (len + 1) ≡ partials_at memory rows len ++ with_piece (begun head) k piece ∷ []) × Sound memory' rows' (len + 1)
-begins memory memory' piece rows rows' len head lengths k place s lt within short el ep inside em er =
-    let zeros : List ℕ = replicate max_fragments 0 in
-    let spare : Row = record { head = head; lengths = zeros; place = place } in
-    let row : Row = record { head = head; lengths = lengths; place = place } in
-    let good = fitting-row spare (omega arith) inside in
-    let none : get_or zeros k 0 ≡ 0 = get_or-replicate max_fragments k 0 0 within in
-    let sums : sum_of lengths ≡ length piece = ap sum_of el ∙ sum-set zeros k (length piece) within none ∙ omega arith in
-    let e : partial_for (written_at memory (body_room * place) piece) row ≡ with_piece (begun head) k piece =
-    piece-written memory spare k piece s.sized good within none piece lengths (sym (first-joined head k piece within)) el in
-    let f = stored memory piece rows len len row (with_piece (begun head) k piece) s lt ep short (fitting-row row (omega arith) inside) e in
-    let n = s.four in
-    let l = length-map rows (partial_for memory) in
-    let t = take_more_set (map (partial_for memory) rows) len (with_piece (begun head) k piece) (omega arith) in
-    let g = f.1 in (
-      rw (em, er) (ap (take (len + 1)) f.0 ∙ t),
-      rw (em, er) (record { sized = g.sized; four = g.four; few = omega arith; fitting = g.fitting; own = g.own }),
-    )
+module _ (t : Table) (head : PartialHead) (lengths : List ℕ) (k place : ℕ) (piece : List ℕ) (lt : t.len < max_partials) (within : k < max_fragments)
+    (short : length piece ≤ body_room) (el : lengths ≡ set (replicate max_fragments 0) k (length piece))
+    (ep : place ≡ (get_or t.rows t.len no_row).place) (inside : place < max_partials) where
+  abbrev row : Row
+  row = record { head = head; lengths = lengths; place = place }
+
+  none : ◌≡◌ {A = ℕ} (get_or (replicate max_fragments 0) k 0) 0
+  none = get_or-replicate max_fragments k 0 0 within
+
+  pub begun-fits : misfit row ≡ false
+  begun-fits =
+      let sums : sum_of lengths ≡ length piece = ap sum_of el ∙ sum-set (replicate max_fragments 0) k (length piece) within none ∙ omega arith in
+      fitting-row row (omega arith) inside
+
+  pub begins : (memory : List ℕ) (rows : List Row) → memory ≡ written_at t.memory.now (body_room * place) piece → rows ≡ set t.rows t.len row
+      → partials_at memory rows (t.len + 1) ≡ partials_in t ++ with_piece (begun head) k piece ∷ []
+  begins memory rows em er =
+      let spare : Row = record { head = head; lengths = replicate max_fragments 0; place = place } in
+      let new = with_piece (begun head) k piece in
+      let e : partial_for (written_at t.memory.now (body_room * place) piece) row ≡ new =
+      piece-written t.memory.now spare k piece t.sized (fitting-row spare (omega arith) inside) within none piece lengths (sym (first-joined head k piece within)) el in
+      let f = stored t t.len row lt ep begun-fits piece new short e in
+      let l = length-map t.rows (partial_for t.memory.now) in
+      rw (em, er) (ap (take (t.len + 1)) f ∙ take_more_set (map (partial_for t.memory.now) t.rows) t.len new (omega arith))

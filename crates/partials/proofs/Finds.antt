@@ -1,14 +1,16 @@
 -- The first row of a sender and a first number, and its partial among the others.
-use Rattle.std.proofs.Common.{◌≡◌, ℕ, suc, ◌+◌, ◌<◌, ◌≤◌, true, false, cond, eqb, List, [], ◌∷◌, map, length, get_or, take, drop, set, Some, None, Option, sym, refl, ap, ◌∙◌, inl, inr, arith}
-use Rattle.std.proofs.lemmas.List.{at_drop_more, at_drop_all, take-map, length-take-le, get_or-take}
+use Rattle.std.proofs.Common.{◌≡◌, ℕ, suc, ◌+◌, ◌<◌, ◌≤◌, true, Bool, eqb, List, [], ◌∷◌, map, length, get_or, take, set, Some, None, Option, sym, refl, ap, ◌∙◌, inl, inr, arith}
+use Rattle.std.specs.List.{position, position_from}
+use Rattle.std.proofs.lemmas.Iterator.Adapters.{position_from-zero}
+use Rattle.std.proofs.lemmas.List.{take-map, length-take-le, get_or-take}
 use Rattle.std.proofs.lemmas.Bool.{cases_Bool, and_parts, eqb-true}
 use Rattle.std.specs.List.{remove}
 use Rattle.partials.specs.Joining.{Partial, is_head_of, partial_with, without, replaced_by}
 use Rattle.partials.specs.Places.{next, index_of, partial_for, partials_at, no_row}
-use Rattle.partials.specs.declared.table.Row.{Row}
+use Rattle.partials.specs.declared.table.row.Row.{Row}
 
 -- an index from i on
-abbrev pub from : ℕ → Option ℕ → Option ℕ
+abbrev from : ℕ → Option ℕ → Option ℕ
 from i None = None
 from i (Some k) = Some (i + k)
 
@@ -20,26 +22,20 @@ from_next : (i : ℕ) (o : Option ℕ) → from i (next o) ≡ from (i + 1) o
 from_next i None = refl
 from_next i (Some k) = let e : i + (k + 1) ≡ i + 1 + k = omega arith in ap Some e
 
-pub index_start : (sender first : ℕ) (rows : List Row) → from 0 (index_of sender first rows) ≡ index_of sender first rows
-index_start sender first rows = from_zero (index_of sender first rows)
+-- as the library has it
+module _ (sender first : ℕ) where
+  abbrev is_of : Row → Bool
+  is_of r = is_head_of sender first r.head
 
-module _ (sender first : ℕ) (rows : List Row) (i : ℕ) (d : Row) (lt : i < length rows) where
-  step : index_of sender first (drop i rows) ≡ cond (is_head_of sender first (get_or rows i d).head) (Some 0) (next (index_of sender first (drop (i + 1) rows)))
-  step = at_drop_more (index_of sender first) rows i d lt
+  index-from : (i : ℕ) (rows : List Row) → position_from is_of i rows ≡ from i (index_of sender first rows)
+  index-from i [] = refl
+  index-from i (r ∷ rs) = elim (cases_Bool (is_of r)) [
+    | inl t ↦ let z : i ≡ i + 0 = omega arith in rw t (ap Some z)
+    | inr n ↦ rw n (index-from (i + 1) rs ∙ sym (from_next i (index_of sender first rs)))
+  ]
 
-  pub index_here : is_head_of sender first (get_or rows i d).head ≡ true → from i (index_of sender first (drop i rows)) ≡ Some i
-  index_here a =
-      let z : i + 0 ≡ i = omega arith in
-      let e : index_of sender first (drop i rows) ≡ Some 0 = step ∙ rw a in
-      ap (from i) e ∙ ap Some z
-
-  pub index_on : is_head_of sender first (get_or rows i d).head ≡ false → from i (index_of sender first (drop i rows)) ≡ from (i + 1) (index_of sender first (drop (i + 1) rows))
-  index_on e =
-      let f : index_of sender first (drop i rows) ≡ next (index_of sender first (drop (i + 1) rows)) = step ∙ rw e in
-      ap (from i) f ∙ from_next i (index_of sender first (drop (i + 1) rows))
-
-pub index_end : (sender first : ℕ) (rows : List Row) (i : ℕ) → length rows ≤ i → from i (index_of sender first (drop i rows)) ≡ None
-index_end sender first rows i h = ap (from i) (at_drop_all (index_of sender first) rows i h)
+  pub index-is : (rows : List Row) → position is_of rows ≡ index_of sender first rows
+  index-is rows = position_from-zero is_of rows ∙ index-from 0 rows ∙ from_zero (index_of sender first rows)
 
 -- an index found behind the first row
 next-some : (o : Option ℕ) (i : ℕ) → next o ≡ Some i → (j : ℕ) × (o ≡ Some j) × (i ≡ suc j)

@@ -1,6 +1,6 @@
 -- What a piece comes to in the rows.
 use Rattle.std.proofs.Common.{◌≡◌, ℕ, zero, suc, ◌+◌, ◌-◌, ◌*◌, ◌<◌, ◌≤◌, Bool, true, false, ◌&&◌, eqb, ltb, List, [], ◌∷◌, ◌++◌, map, length, get_or, take, drop, set, Some, Ok, Err, sym, refl, ap, ◌∙◌, arith, length-drop}
-use Rattle.std.proofs.lemmas.List.{length-take-le, length-set, drop_at, take_at}
+use Rattle.std.proofs.lemmas.List.{length-take-le, drop_at, take_at}
 use Rattle.std.proofs.lemmas.Bool.{lt-ltb, le-ltb, ltb-false, eq-eqb, eqb-true, or_from, and_parts, cond-true, cond-false}
 use Rattle.base.specs.Areas.{written_at}
 use Rattle.base.specs.Limits.{body_room}
@@ -9,15 +9,15 @@ use Rattle.base.specs.declared.refusal.Refusal.{Refusal}
 use Rattle.wire.specs.Joining.{joined_pieces}
 use Rattle.wire.specs.Splitting.{cut}
 use Rattle.partials.specs.Joining.{Partial, Outcome, refused, again, kept, whole, max_partials, agree, same_checksum, complete, all_there, with_piece, refused_for, settled, join_found, join_at, join_of, join_in, misplaced}
-use Rattle.partials.specs.Places.{Meets, sum_of, all_positive, spliced, front_of, no_row, index_of, partial_for, partials_at, partials_in, count_by, has_place, misfit, Sound, SoundTable}
+use Rattle.partials.specs.Places.{Meets, sum_of, all_positive, spliced, front_of, no_row, index_of, partial_for, count_by, has_place, misfit, OwnPlaces}
+use Rattle.partials.specs.Tables.{partials_in}
 use Rattle.partials.specs.declared.head.Joined.TheVariants.{Again, Kept, Whole}
 use Rattle.partials.specs.declared.head.PartialHead.{PartialHead}
-use Rattle.partials.specs.declared.table.Row.{Row}
+use Rattle.partials.specs.declared.table.row.Row.{Row}
 use Rattle.partials.specs.declared.table.Table.{Table}
 use Rattle.partials.proofs.Cuts.{cut-take, length-piece, splice_joined, splice_there, splice_cut, length-spliced, sum-set}
 use Rattle.partials.proofs.Finds.{FoundAt, found_at}
 use Rattle.partials.proofs.Tables.{none_at, fits-at, own_at, changed, count_set}
-use Rattle.base.proofs.Areas.{length-written}
 
 -- calls whose outcome is known
 module _ {o : Outcome} (ps : List Partial) (was : List ℕ) where
@@ -42,9 +42,9 @@ module _ (buffer : List ℕ) (ps : List Partial) (head : PartialHead) (number : 
   unfolding join_of
   join_misplaced e = roomy ∙ cond-true _ _ _ e
 
-  pub join_placed : (n : ℕ) → n ≡ number → misplaced head number piece ≡ false → join_in buffer ps head number piece ≡ join_at ps head (n - 1) piece
+  pub join_placed : misplaced head number piece ≡ false → join_in buffer ps head number piece ≡ join_at ps head (number - 1) piece
   unfolding join_of
-  join_placed n is e = roomy ∙ cond-false _ _ _ e ∙ ap (λ m. join_at ps head (m - 1) piece) (sym is)
+  join_placed e = roomy ∙ cond-false _ _ _ e
 
 -- a partial with its new piece
 module _ (p : Partial) (ps : List Partial) where
@@ -125,53 +125,35 @@ take-set_within (suc n) i [] x h = refl
 take-set_within (suc n) zero (y ∷ ys) x h = refl
 take-set_within (suc n) (suc i) (y ∷ ys) x h = ap (λ zs. y ∷ zs) (take-set_within n i ys x (omega arith))
 
--- the rows with one of them changed, over the memory with its bytes
-pub stored : (memory bytes : List ℕ) (rows : List Row) (len i : ℕ) (row : Row) (new : Partial) → Sound memory rows len → i < max_partials
-    → row.place ≡ (get_or rows i no_row).place → length bytes ≤ body_room → misfit row ≡ false
-    → partial_for (written_at memory (body_room * row.place) bytes) row ≡ new
-    → (map (partial_for (written_at memory (body_room * row.place) bytes)) (set rows i row) ≡ set (map (partial_for memory) rows) i new)
-    × Sound (written_at memory (body_room * row.place) bytes) (set rows i row) len
-stored memory bytes rows len i row new s lt same short good e =
-    let four = s.four in
-    let p = row.place in
-    let g = fits-at row good in
-    let t : has_place p (get_or rows i no_row) ≡ true = eq-eqb (get_or rows i no_row).place p (sym same) in
-    let a = own_at rows p s.own g.1 in
-    let f = changed memory bytes p s.sized g.1 short rows i no_row row new (omega arith) t a s.fitting e in
-    let was = none_at misfit rows i no_row (omega arith) s.fitting in
-    let q : (n : ℕ) → count_by (has_place n) (set rows i row) ≡ count_by (has_place n) rows = λ n. count_set (has_place n) rows i no_row row (omega arith) (ap (λ x. eqb x n) same) in (
-      f,
-      record {
-        sized = length-written memory (body_room * p) bytes (let z = s.sized in omega arith) ∙ s.sized;
-        four = length-set rows i row ∙ four;
-        few = s.few;
-        fitting = count_set misfit rows i no_row row (omega arith) (good ∙ sym was) ∙ s.fitting;
-        own = (q 0 ∙ s.own.0, q 1 ∙ s.own.1, q 2 ∙ s.own.2, q 3 ∙ s.own.3);
-      },
-    )
+-- a row changed, and its bytes written to its place
+module _ (t : Table) (i : ℕ) (row : Row) (lt : i < max_partials) (same : row.place ≡ (get_or t.rows i no_row).place) (good : misfit row ≡ false) where
+  pub fitting-stored : count_by misfit (set t.rows i row) ≡ 0
+  fitting-stored = count_set misfit t.rows i no_row row (omega arith) (good ∙ sym (none_at misfit t.rows i no_row (omega arith) t.fitting)) ∙ t.fitting
 
--- a row in use, stored where it was
-pub stored_within : (memory memory' bytes : List ℕ) (rows rows' : List Row) (len len' i : ℕ) (row : Row) (new : Partial) → Sound memory rows len → i < len
-    → row.place ≡ (get_or rows i no_row).place → length bytes ≤ body_room → misfit row ≡ false
-    → partial_for (written_at memory (body_room * row.place) bytes) row ≡ new
-    → memory' ≡ written_at memory (body_room * row.place) bytes → rows' ≡ set rows i row → len' ≡ len
-    → (partials_at memory' rows' len' ≡ set (partials_at memory rows len) i new) × Sound memory' rows' len'
-stored_within memory memory' bytes rows rows' len len' i row new s lt same short good e em er el =
-    let n = s.few in
-    let f = stored memory bytes rows len i row new s (omega arith) same short good e in
-    (rw (em, er, el) (ap (take len) f.0 ∙ take-set_within len i (map (partial_for memory) rows) new lt), rw (em, er, el) f.1)
+  pub own-stored : OwnPlaces (set t.rows i row)
+  own-stored =
+      let q : (n : ℕ) → count_by (has_place n) (set t.rows i row) ≡ count_by (has_place n) t.rows = λ n. count_set (has_place n) t.rows i no_row row (omega arith) (ap (λ x. eqb x n) same) in
+      (q 0 ∙ t.own.0, q 1 ∙ t.own.1, q 2 ∙ t.own.2, q 3 ∙ t.own.3)
+
+  pub stored : (bytes : List ℕ) (new : Partial) → length bytes ≤ body_room → partial_for (written_at t.memory.now (body_room * row.place) bytes) row ≡ new
+      → map (partial_for (written_at t.memory.now (body_room * row.place) bytes)) (set t.rows i row) ≡ set (map (partial_for t.memory.now) t.rows) i new
+  stored bytes new short e =
+      let p = row.place in
+      let g = fits-at row good in
+      let there : has_place p (get_or t.rows i no_row) ≡ true = eq-eqb (get_or t.rows i no_row).place p (sym same) in
+      changed t.memory.now bytes p t.sized g.1 short t.rows i no_row row new (omega arith) there (own_at t.rows p t.own g.1) t.fitting e
 
 -- what a piece of the packet in the row at i comes to
-module _ (t : Table) (i : ℕ) (r : Row) (head : PartialHead) (k : ℕ) (piece : List ℕ) (s : SoundTable t)
+module _ (t : Table) (i : ℕ) (r : Row) (head : PartialHead) (k : ℕ) (piece : List ℕ)
     (e : index_of head.sender head.first (take t.len t.rows) ≡ Some i) (is : r ≡ get_or t.rows i no_row) where
   found : FoundAt t.memory.now t.rows t.len head.sender head.first i
-  found = found_at t.memory.now t.rows t.len head.sender head.first i (let n = s.four in let m = s.few in omega arith) e
+  found = found_at t.memory.now t.rows t.len head.sender head.first i (let n = t.four in let m = t.few in omega arith) e
 
   pub within : i < t.len
   within = found.within
 
   pub good : misfit r ≡ false
-  good = ap misfit is ∙ none_at misfit t.rows i no_row (let n = s.four in let m = s.few in let w = within in omega arith) s.fitting
+  good = ap misfit is ∙ none_at misfit t.rows i no_row (let n = t.four in let m = t.few in let w = within in omega arith) t.fitting
 
   joins : join_at (partials_in t) head k piece ≡ join_found (Some (partial_for t.memory.now r)) (partials_in t) head k piece
   joins = ap (λ o. join_found o (partials_in t) head k piece) (found.is ∙ ap (λ x. Some (partial_for t.memory.now x)) (sym is))
@@ -182,29 +164,36 @@ module _ (t : Table) (i : ℕ) (r : Row) (head : PartialHead) (k : ℕ) (piece :
   module _ (a : agree r.head head ≡ true) where
     pub to_again : ltb 0 (get_or r.lengths k 0) ≡ true → join_at (partials_in t) head k piece ≡ again
     to_again l =
-        let old = length-old t.memory.now r k piece s.sized good in
+        let old = length-old t.memory.now r k piece t.sized good in
         joins ∙ rw (a, old, l)
 
     module _ (w : k < length r.lengths) (z : get_or r.lengths k 0 ≡ 0) where
       settles : join_at (partials_in t) head k piece
           ≡ settled (added t.memory.now r k piece) (set (partials_in t) i (added t.memory.now r k piece))
       settles =
-          let old = length-old t.memory.now r k piece s.sized good in
+          let old = length-old t.memory.now r k piece t.sized good in
           let x = found.replaced (added t.memory.now r k piece) (ap (λ x. x.head) is) in
           joins ∙ rw (a, old, z, x)
 
       pub long : length (joined_pieces (added t.memory.now r k piece).pieces) ≡ sum_of r.lengths + length piece
-      long = length-joined t.memory.now r k piece s.sized good w z
+      long = length-joined t.memory.now r k piece t.sized good w z
 
       last : complete (added t.memory.now r k piece) ≡ all_positive (take head.total (set r.lengths k (length piece)))
-      last = complete-is t.memory.now r k piece s.sized good w z ∙ ap (λ n. all_positive (take n (set r.lengths k (length piece)))) (agree-total r.head head a)
+      last = complete-is t.memory.now r k piece t.sized good w z ∙ ap (λ n. all_positive (take n (set r.lengths k (length piece)))) (agree-total r.head head a)
 
       filled : (was now : List ℕ) → now ≡ written_at was 0 (spliced (sum_of (take k r.lengths)) (front_of t.memory.now r) piece)
           → now ≡ written_at was 0 (joined_pieces (added t.memory.now r k piece).pieces)
-      filled was now x = x ∙ ap (written_at was 0) (sym (joined_is t.memory.now r k piece s.sized good w z))
+      filled was now x = x ∙ ap (written_at was 0) (sym (joined_is t.memory.now r k piece t.sized good w z))
 
       pub to_long : body_room < sum_of r.lengths + length piece → join_at (partials_in t) head k piece ≡ refused_for FragmentsTooLong
       to_long l = settles ∙ settled-long (added t.memory.now r k piece) _ (let n = long in omega arith)
+
+      -- the row with its new piece fits its place
+      pub kept-fits : (lengths : List ℕ) → lengths ≡ set r.lengths k (length piece) → sum_of r.lengths + length piece ≤ body_room
+          → misfit (record { head = r.head; lengths = lengths; place = r.place }) ≡ false
+      kept-fits lengths el short =
+          let sums : sum_of lengths ≡ sum_of r.lengths + length piece = ap sum_of el ∙ sum-set r.lengths k (length piece) w z in
+          fitting-row (record { head = r.head; lengths = lengths; place = r.place }) (omega arith) (fits-at r good).1
 
       -- the buffer has all pieces
       module _ (was now : List ℕ) (n : ℕ) (wrote : now ≡ written_at was 0 (spliced (sum_of (take k r.lengths)) (front_of t.memory.now r) piece))
@@ -219,7 +208,7 @@ module _ (t : Table) (i : ℕ) (r : Row) (head : PartialHead) (k : ℕ) (piece :
         pub to_kept : (u : Table) (lengths : List ℕ) → lengths ≡ set r.lengths k (length piece) → all_positive (take head.total (set r.lengths k (length piece))) ≡ false
             → u.memory.now ≡ written_at t.memory.now (body_room * r.place) (take n now)
             → u.rows ≡ set t.rows i (record { head = r.head; lengths = lengths; place = r.place }) → u.len ≡ t.len
-            → Meets (join_at (partials_in t) head k piece) (partials_in t) was (Ok Kept) (partials_in u) now × SoundTable u
+            → Meets (join_at (partials_in t) head k piece) (partials_in t) was (Ok Kept) (partials_in u) now
         to_kept u lengths el c em er en =
             let memory = t.memory.now in
             let new = added memory r k piece in
@@ -227,7 +216,8 @@ module _ (t : Table) (i : ℕ) (r : Row) (head : PartialHead) (k : ℕ) (piece :
             let l = long in
             let x = filled was now wrote in
             let bytes : take n now ≡ joined_pieces new.pieces = front_written was now (joined_pieces new.pieces) n x (omega arith) in
-            let sums : sum_of lengths ≡ sum_of r.lengths + length piece = ap sum_of el ∙ sum-set r.lengths k (length piece) w z in
-            let after = stored_within memory u.memory.now (take n now) t.rows u.rows t.len u.len i row new s within (ap (λ y. y.place) is)
-            (omega (arith, ap length bytes)) (fitting-row row (omega arith) (fits-at r good).1) (piece-written memory r k piece s.sized good w z (take n now) lengths bytes el) em er en in
-            (meets_kept (partials_in t) was (set (partials_in t) i new) (partials_in u) (joined_pieces new.pieces) now (settles ∙ settled-kept new _ (omega arith) (last ∙ c)) after.0 x, after.1)
+            let fits = kept-fits lengths el (omega arith) in
+            let f = stored t i row (let w = within in omega (arith, t.few)) (ap (λ y. y.place) is) fits (take n now) new (omega (arith, ap length bytes))
+            (piece-written memory r k piece t.sized good w z (take n now) lengths bytes el) in
+            let after : partials_in u ≡ set (partials_in t) i new = rw (em, er, en) (ap (take t.len) f ∙ take-set_within t.len i (map (partial_for memory) t.rows) new within) in
+            meets_kept (partials_in t) was (set (partials_in t) i new) (partials_in u) (joined_pieces new.pieces) now (settles ∙ settled-kept new _ (omega arith) (last ∙ c)) after x

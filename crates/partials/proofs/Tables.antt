@@ -6,7 +6,7 @@ use Rattle.base.specs.Limits.{body_room}
 use Rattle.wire.specs.Splitting.{cut}
 use Rattle.partials.specs.Joining.{Partial, max_partials}
 use Rattle.partials.specs.Places.{sum_of, partial_for, count_by, has_place, misfit, OwnPlaces}
-use Rattle.partials.specs.declared.table.Row.{Row}
+use Rattle.partials.specs.declared.table.row.Row.{Row}
 use Rattle.partials.proofs.Cuts.{cut-take}
 use Rattle.base.proofs.Areas.{length-written, part-below, drop-above}
 

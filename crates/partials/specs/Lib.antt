@@ -1,4 +1,5 @@
 pub mod Joining
 pub mod Places
+pub mod Tables
 pub mod Known
 pub mod Meaning

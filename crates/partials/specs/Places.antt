@@ -1,21 +1,20 @@
 -- How partials lie in rows and memory, and what holds of these at all times.
-use Rattle.std.specs.Prelude.{◌≡◌, ℕ, ◌+◌, ◌-◌, ◌*◌, ◌≤◌, Bool, true, cond, not, ◌&&◌, ◌||◌, List, [], ◌∷◌, ◌++◌, map, length, take, drop, Some, None, Option, Result, ◌==◌, nat_lt}
+use Rattle.std.specs.Prelude.{◌≡◌, ℕ, ◌+◌, ◌-◌, ◌*◌, ◌≤◌, Bool, cond, not, ◌||◌, List, [], ◌∷◌, ◌++◌, map, length, take, drop, Some, None, Option, Result, ◌==◌, nat_lt}
+use Rattle.std.specs.List.{list_all}
 use Rattle.base.specs.Areas.{written_at}
 use Rattle.base.specs.Limits.{body_room}
 use Rattle.base.specs.declared.refusal.Refusal.{Refusal}
 use Rattle.wire.specs.Splitting.{cut}
 use Rattle.partials.specs.Joining.{Partial, Outcome, max_partials, is_head_of, answer_of, after_of, bytes_of}
 use Rattle.partials.specs.declared.head.Joined.{Joined}
-use Rattle.partials.specs.declared.table.Row.{Row}
-use Rattle.partials.specs.declared.table.Table.{Table}
+use Rattle.partials.specs.declared.table.row.Row.{Row}
 
 abbrev pub sum_of : List ℕ → ℕ
 sum_of [] = 0
 sum_of (n ∷ ns) = n + sum_of ns
 
 abbrev pub all_positive : List ℕ → Bool
-all_positive [] = true
-all_positive (n ∷ ns) = not (n == 0) && all_positive ns
+all_positive ns = list_all (λ n. not (n == 0)) ns
 
 -- The partial of a row: the lengths cut its place into the pieces.
 abbrev pub partial_for : List ℕ → Row → Partial
@@ -50,9 +49,6 @@ index_of sender first (r ∷ rs) = cond (is_head_of sender first r.head) (Some 0
 abbrev pub partials_at : List ℕ → List Row → ℕ → List Partial
 partials_at memory rows len = take len (map (partial_for memory) rows)
 
-abbrev pub partials_in : Table → List Partial
-partials_in t = partials_at t.memory.now t.rows t.len
-
 abbrev pub count_by : (Row → Bool) → List Row → ℕ
 count_by f [] = 0
 count_by f (r ∷ rs) = cond (f r) 1 0 + count_by f rs
@@ -74,9 +70,6 @@ pub record Sound (memory : List ℕ) (rows : List Row) (len : ℕ) : Type 0 wher
   pub few : len ≤ max_partials
   pub fitting : count_by misfit rows ≡ 0
   pub own : OwnPlaces rows
-
-abbrev pub SoundTable : Table → Type 0
-SoundTable t = Sound t.memory.now t.rows t.len
 
 -- A call met an outcome: what it answered, and the partials and the buffer after it.
 pub record Meets (o : Outcome) (ps : List Partial) (was : List ℕ) (r : Result Joined Refusal) (qs : List Partial) (now : List ℕ) : Type 0 where

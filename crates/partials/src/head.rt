@@ -1,8 +1,10 @@
 // What the fragments of a packet share, and what a fragment comes to.
 
 mod comparing;
+mod piece;
 
-pub(crate) use comparing::{agrees, at_fragment, is_misplaced, is_of};
+pub(crate) use comparing::Key;
+pub(crate) use piece::{FRAGMENT_PLACE, Piece};
 
 /// What the fragments of one packet share. Its sender and its first number tell a packet from others.
 #[derive(Clone, Copy)]

@@ -1,28 +1,30 @@
 // Packets in reassembly as rows, with their bytes in lent memory.
-use crate::head::PartialHead;
+ghost use Rattle.std.specs.Prelude.{◌≡◌, ◌*◌, ◌≤◌, length};
+ghost use Rattle.base.specs.Limits.{body_room};
+ghost use Rattle.partials.specs.Joining.{max_partials};
+ghost use Rattle.partials.specs.Places.{count_by, misfit, OwnPlaces};
 
 mod ending;
 mod finding;
 mod joining;
 mod lengths;
+pub(crate) mod row;
+
+pub(crate) use row::Row;
 
 // The most packets in reassembly at a time.
 pub(crate) const MAX_PARTIALS: usize = 4;
 
-// A packet in reassembly: the lengths of its pieces by number, 0 where none has come, and its place. In the place the pieces
-// lie one after another in the order of their numbers.
-#[derive(Clone, Copy)]
-pub(crate) struct Row {
-    pub(crate) head: PartialHead,
-    pub(crate) lengths: [u16; 16],
-    pub(crate) place: usize,
-}
-
 // The lent memory, four places, and a row for each of them. The first `len` rows are in use, the one begun first at the head.
-// They stand in a struct of their own because one with a ghost field cannot lend the memory.
 #[derive(Drop)]
 pub(crate) struct Table<'a> {
     pub(crate) memory: &'a mut [u8],
+    // The spare rows keep the numbers of the places that are free.
     pub(crate) rows: [Row; MAX_PARTIALS],
     pub(crate) len: usize,
+    ghost sized: { length memory.now ≡ max_partials * body_room },
+    ghost four: { length rows ≡ max_partials },
+    ghost few: { len ≤ max_partials },
+    ghost fitting: { count_by misfit rows ≡ 0 },
+    ghost own: { OwnPlaces rows },
 }

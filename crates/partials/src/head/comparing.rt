@@ -1,47 +1,50 @@
-// Fragments by themselves and beside those of their packet.
+// Fragments beside those of their packet.
 ghost use Rattle.std.specs.Prelude.{◌≡◌};
-ghost use Rattle.partials.specs.Joining.{same_checksum, agree, is_head_of, misplaced};
+ghost use Rattle.partials.specs.Joining.{agree};
 
 use super::PartialHead;
-use base::limits::MAX_FRAGMENTS;
-use base::{Cause, Refusal};
 
-fn same_checksum(a: Option<u32>, b: Option<u32>) -> bool
-    ensures { result ≡ same_checksum a b }
-{
-    match (a, b) {
-        (None, None) => true,
-        (Some(x), Some(y)) => x == y,
-        _ => false,
+// What tells a packet from others.
+#[derive(Clone, Copy, PartialEq)]
+pub(crate) struct Key {
+    pub(crate) sender: u8,
+    pub(crate) first: u64,
+}
+
+// What the fragments of a packet agree in.
+#[derive(Clone, Copy, PartialEq)]
+struct Shape {
+    count: u16,
+    flag: u16,
+    total: u16,
+    checksum: Option<u32>,
+}
+
+impl PartialHead {
+    pub(crate) fn key(self) -> Key
+        ensures { result ≡ record { sender = self.sender; first = self.first } }
+    {
+        Key {
+            sender: self.sender,
+            first: self.first,
+        }
     }
-}
 
-// Whether two fragments of one packet tell the same of it.
-pub(crate) fn agrees(a: PartialHead, b: PartialHead) -> bool
-    ensures { result ≡ agree a b }
-{
-    a.count == b.count
-        && a.flag == b.flag
-        && a.total == b.total
-        && same_checksum(a.checksum, b.checksum)
-}
+    fn shape(self) -> Shape
+        ensures { result ≡ record { count = self.count; flag = self.flag; total = self.total; checksum = self.checksum } }
+    {
+        Shape {
+            count: self.count,
+            flag: self.flag,
+            total: self.total,
+            checksum: self.checksum,
+        }
+    }
 
-pub(crate) fn is_of(head: PartialHead, sender: u8, first: u64) -> bool
-    ensures { result ≡ is_head_of sender first head }
-{
-    head.sender == sender && head.first == first
-}
-
-// Whether there can be no such fragment.
-pub(crate) fn is_misplaced(head: PartialHead, number: u16, piece: &[u8]) -> bool
-    ensures { result ≡ misplaced head number piece.now }
-{
-    head.total > MAX_FRAGMENTS || number == 0 || number > head.total || piece.len() == 0
-}
-
-// A refusal at the fragment's number, which stands at 20 in its datagram.
-pub(crate) fn at_fragment(cause: Cause) -> Refusal
-    ensures { result ≡ record { cause = cause; value = 20 } }
-{
-    Refusal { cause, value: 20 }
+    // Whether two fragments of one packet tell the same of it.
+    pub(crate) fn agrees(self, other: PartialHead) -> bool
+        ensures { result ≡ agree self other }
+    {
+        self.shape() == other.shape()
+    }
 }

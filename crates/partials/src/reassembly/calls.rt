@@ -1,47 +1,24 @@
 // What can be done with packets in reassembly.
-ghost use Rattle.std.specs.Prelude.{◌≡◌, ◌≤◌, [], length, replicate, IfOk, Ok, ◌==◌};
+ghost use Rattle.std.specs.Prelude.{◌≡◌, ◌≤◌, [], length, IfOk, Ok, ◌==◌};
 ghost use Rattle.base.specs.Areas.{written_at};
 ghost use Rattle.partials.specs.Joining.{partials_fit, join_in, answer_of, size_of, after_of, bytes_of, without};
 ghost use Rattle.partials.specs.Meaning.{partials_of};
-ghost use Rattle.partials.specs.Places.{no_row};
 
 use super::Partials;
-use crate::head::{Joined, PartialHead, at_fragment, is_misplaced};
+use crate::head::{Joined, Key, PartialHead, Piece};
 use crate::table::{MAX_PARTIALS, Row, Table};
 use base::limits::BODY_ROOM;
 use base::{Cause, Refusal};
+use std::array;
 
 /// Whether packets can be reassembled in so many bytes: four places of 4,096.
 pub fn partials_fit(memory: usize) -> Result<(), Refusal>
     ensures { result ≡ partials_fit memory }
 {
     if memory != MAX_PARTIALS * BODY_ROOM {
-        return Err(Refusal {
-            cause: Cause::PartSize,
-            value: 0,
-        });
+        return Err(Refusal::new(Cause::PartSize, 0));
     }
     Ok(())
-}
-
-const NO_HEAD: PartialHead = PartialHead {
-    sender: 0,
-    first: 0,
-    count: 0,
-    flag: 0,
-    total: 0,
-    checksum: None,
-};
-
-// A spare row with its place.
-fn spare_row(place: usize) -> Row
-    ensures { result ≡ record { head = no_row.head; lengths = replicate 16 0; place = place } }
-{
-    Row {
-        head: NO_HEAD,
-        lengths: [0; 16],
-        place,
-    }
 }
 
 impl<'a> Partials<'a> {
@@ -50,11 +27,10 @@ impl<'a> Partials<'a> {
         requires { partials_fit (length memory.old) ≡ Ok tt }
         ensures { partials_of result ≡ [] }
     {
-        let rows = [spare_row(0), spare_row(1), spare_row(2), spare_row(3)];
         Partials {
             table: Table {
                 memory,
-                rows,
+                rows: array::from_fn(Row::spare),
                 len: 0,
             },
         }
@@ -81,23 +57,16 @@ impl<'a> Partials<'a> {
         ensures buffer { joining.new ≡ written_at joining.old 0 (bytes_of (join_in joining.old (partials_of self.old) head number piece.now)) }
         ensures short { IfOk result (λ joined. size_of joined ≤ length joining.old) }
     {
-        if joining.len() != BODY_ROOM {
-            return Err(Refusal {
-                cause: Cause::BufferSize,
-                value: 0,
-            });
-        }
-        if is_misplaced(head, number, piece) {
-            return Err(at_fragment(Cause::Fragment));
-        }
-        self.table
-            .join(head, usize::from(number) - 1, piece, joining)
+        let joining = joining
+            .as_mut_array()
+            .ok_or(Refusal::new(Cause::BufferSize, 0))?;
+        self.table.join(Piece::new(head, number, piece)?, joining)
     }
 
     /// Ends the packet of a sender and a first number, if it stands.
     pub fn end(&mut self, sender: u8, first: u64)
         ensures { partials_of self.new ≡ without sender first (partials_of self.old) }
     {
-        self.table.end(sender, first);
+        self.table.end(Key { sender, first });
     }
 }

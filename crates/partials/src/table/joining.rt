@@ -1,14 +1,16 @@
 // Pieces that come.
-ghost use Rattle.std.specs.Prelude.{◌≡◌, ◌+◌, ◌*◌, ◌<◌, ◌≤◌, length, take, Some, None, slice_index_or, slice_set};
+ghost use Rattle.std.specs.Prelude.{◌≡◌, ◌+◌, ◌*◌, ◌<◌, ◌≤◌, false, length, take, Some, None, slice_index_or, slice_set};
 ghost use Rattle.base.specs.Areas.{written_at};
-ghost use Rattle.base.specs.Limits.{body_room, max_fragments};
+ghost use Rattle.base.specs.Limits.{body_room};
 ghost use Rattle.partials.specs.Joining.{max_partials, join_at};
-ghost use Rattle.partials.specs.Places.{Meets, sum_of, spliced, front_of, no_row, index_of, partials_in, SoundTable};
+ghost use Rattle.partials.specs.Places.{Meets, sum_of, spliced, front_of, no_row, index_of, misfit};
+ghost use Rattle.partials.specs.Tables.{partials_in};
 
+use super::Table;
 use super::finding::index_of;
 use super::lengths::{all_there, has_piece, sum, with_length};
-use super::{Row, Table};
-use crate::head::{Joined, PartialHead, agrees, at_fragment};
+use super::row::{PIECES, Row};
+use crate::head::{FRAGMENT_PLACE, Joined, Piece};
 use base::limits::BODY_ROOM;
 use base::{Cause, Refusal, write_at};
 
@@ -27,7 +29,9 @@ impl Table<'_> {
     // Writes bytes to the front of a row's place, and the row itself at `i`.
     fn store(&mut self, i: usize, row: Row, bytes: &[u8])
         requires within { i < max_partials }
-        requires room { body_room * row.place + length bytes.now ≤ length self.old.memory.now }
+        requires fits { misfit row ≡ false }
+        requires place { row.place ≡ (slice_index_or self.old.rows i no_row).place }
+        requires room { length bytes.now ≤ body_room }
         ensures memory { self.new.memory.now ≡ written_at self.old.memory.now (body_room * row.place) bytes.now }
         ensures rows { self.new.rows ≡ slice_set self.old.rows i row }
         ensures len { self.new.len ≡ self.old.len }
@@ -38,7 +42,6 @@ impl Table<'_> {
 
     // The row at `i`: its pieces fit a place, and its place is one of the four.
     fn row_at(&self, i: usize) -> Row
-        requires sound { SoundTable self.now }
         requires within { i < max_partials }
         ensures is { result ≡ slice_index_or self.now.rows i no_row }
         ensures fits { sum_of result.lengths ≤ body_room }
@@ -47,116 +50,93 @@ impl Table<'_> {
         self.rows[i]
     }
 
-    // Writes the pieces of a row, with `piece` as piece `k` among them, to the front of `out`.
-    fn gather(&self, row: Row, k: usize, piece: &[u8], out: &mut [u8])
-        requires place { (row.place < max_partials) × (length self.now.memory.now ≡ max_partials * body_room) }
-        requires room { (sum_of row.lengths + length piece.now ≤ body_room) × ((length out.old ≡ body_room) × (k < max_fragments)) }
-        ensures { out.new ≡ written_at out.old 0 (spliced (sum_of (take k row.lengths)) (front_of self.now.memory.now row) piece.now) }
+    // Writes the pieces of a row, with a new piece among them, to the front of `out`.
+    fn gather(&self, row: Row, piece: Piece<'_>, out: &mut [u8; BODY_ROOM])
+        requires place { row.place < max_partials }
+        requires room { sum_of row.lengths + length piece.bytes.now ≤ body_room }
+        ensures { out.new ≡ written_at out.old 0 (spliced (sum_of (take piece.entry.index row.lengths)) (front_of self.now.memory.now row) piece.entry.bytes.now) }
     {
         let used = sum(&row.lengths);
         let start = BODY_ROOM * row.place;
         splice(
             &self.memory[start..start + used],
-            sum(&row.lengths[..k]),
-            piece,
+            sum(&row.lengths[..piece.index]),
+            piece.bytes,
             out,
         );
     }
 
-    // Piece `k`, from 0, of the packet in the row at `i`.
+    // A piece of the packet in the row at `i`.
     fn join_to(
         &mut self,
         i: usize,
-        head: PartialHead,
-        k: usize,
-        piece: &[u8],
-        joining: &mut [u8],
+        piece: Piece<'_>,
+        joining: &mut [u8; BODY_ROOM],
     ) -> Result<Joined, Refusal>
-        requires sound { SoundTable self.old }
-        requires found { index_of head.sender head.first (take self.old.len self.old.rows) ≡ Some i }
-        requires piece { (k < head.total) × ((0 < length piece.now) × (head.total ≤ max_fragments)) }
-        requires buffer { length joining.old ≡ body_room }
-        ensures meets { Meets (join_at (partials_in self.old) head k piece.now) (partials_in self.old) joining.old result (partials_in self.new) joining.new }
-        ensures sound { SoundTable self.new }
+        requires { index_of piece.head.sender piece.head.first (take self.old.len self.old.rows) ≡ Some i }
+        ensures { Meets (join_at (partials_in self.old) piece.entry.head piece.entry.index piece.entry.bytes.now) (partials_in self.old) joining.old result (partials_in self.new) joining.new }
     {
         let row = self.row_at(i);
-        if !agrees(row.head, head) {
-            return Err(at_fragment(Cause::FragmentMismatch));
+        if !row.head.agrees(piece.head) {
+            return Err(Refusal::new(Cause::FragmentMismatch, FRAGMENT_PLACE));
         }
-        if has_piece(&row.lengths, k) {
+        if has_piece(&row.lengths, piece.index) {
             return Ok(Joined::Again);
         }
         let used = sum(&row.lengths);
-        if piece.len() > BODY_ROOM - used {
-            return Err(at_fragment(Cause::FragmentsTooLong));
+        if piece.bytes.len() > BODY_ROOM - used {
+            return Err(Refusal::new(Cause::FragmentsTooLong, FRAGMENT_PLACE));
         }
-        let size = used + piece.len();
-        self.gather(row, k, piece, joining);
-        let lengths = with_length(row.lengths, k, piece.len());
-        if all_there(&lengths[..usize::from(head.total)]) {
+        let size = used + piece.bytes.len();
+        self.gather(row, piece, joining);
+        let lengths = with_length(row.lengths, piece.index, piece.bytes.len());
+        if all_there(&lengths[..usize::from(piece.head.total)]) {
             return Ok(Joined::Whole(size));
         }
         self.store(i, Row { lengths, ..row }, &joining[..size]);
         Ok(Joined::Kept)
     }
 
-    // Piece `k`, from 0, of a packet of which none has come.
-    fn begin(
-        &mut self,
-        head: PartialHead,
-        k: usize,
-        piece: &[u8],
-        joining: &mut [u8],
-    ) -> Result<Joined, Refusal>
-        requires sound { SoundTable self.old }
-        requires found { index_of head.sender head.first (take self.old.len self.old.rows) ≡ None }
-        requires piece { (k < head.total) × ((0 < length piece.now) × (head.total ≤ max_fragments)) }
-        requires buffer { length joining.old ≡ body_room }
-        ensures meets { Meets (join_at (partials_in self.old) head k piece.now) (partials_in self.old) joining.old result (partials_in self.new) joining.new }
-        ensures sound { SoundTable self.new }
+    // A piece of a packet of which none has come.
+    fn begin(&mut self, piece: Piece<'_>, joining: &mut [u8; BODY_ROOM]) -> Result<Joined, Refusal>
+        requires { index_of piece.head.sender piece.head.first (take self.old.len self.old.rows) ≡ None }
+        ensures { Meets (join_at (partials_in self.old) piece.entry.head piece.entry.index piece.entry.bytes.now) (partials_in self.old) joining.old result (partials_in self.new) joining.new }
     {
-        if piece.len() > BODY_ROOM {
-            return Err(at_fragment(Cause::FragmentsTooLong));
+        if piece.bytes.len() > BODY_ROOM {
+            return Err(Refusal::new(Cause::FragmentsTooLong, FRAGMENT_PLACE));
         }
-        let _ = write_at(joining, 0, piece);
-        if head.total == 1 {
-            return Ok(Joined::Whole(piece.len()));
+        let _ = write_at(joining, 0, piece.bytes);
+        if piece.head.total == 1 {
+            return Ok(Joined::Whole(piece.bytes.len()));
         }
         self.make_room();
         let at = self.len;
         let spare = self.row_at(at);
-        let lengths = with_length([0; 16], k, piece.len());
+        let lengths = with_length([0; PIECES], piece.index, piece.bytes.len());
         self.store(
             at,
             Row {
-                head,
+                head: piece.head,
                 lengths,
                 ..spare
             },
-            piece,
+            piece.bytes,
         );
         self.len = at + 1;
         Ok(Joined::Kept)
     }
 
-    // Piece `k`, from 0, of the packet of `head`.
+    // A piece, to the others of its packet.
     pub(crate) fn join(
         &mut self,
-        head: PartialHead,
-        k: usize,
-        piece: &[u8],
-        joining: &mut [u8],
+        piece: Piece<'_>,
+        joining: &mut [u8; BODY_ROOM],
     ) -> Result<Joined, Refusal>
-        requires sound { SoundTable self.old }
-        requires piece { (k < head.total) × ((0 < length piece.now) × (head.total ≤ max_fragments)) }
-        requires buffer { length joining.old ≡ body_room }
-        ensures meets { Meets (join_at (partials_in self.old) head k piece.now) (partials_in self.old) joining.old result (partials_in self.new) joining.new }
-        ensures sound { SoundTable self.new }
+        ensures { Meets (join_at (partials_in self.old) piece.entry.head piece.entry.index piece.entry.bytes.now) (partials_in self.old) joining.old result (partials_in self.new) joining.new }
     {
-        let len = self.len;
-        match index_of(&self.rows[..len], head.sender, head.first) {
-            None => self.begin(head, k, piece, joining),
-            Some(i) => self.join_to(i, head, k, piece, joining),
+        match index_of(&self.rows[..self.len], piece.head.key()) {
+            None => self.begin(piece, joining),
+            Some(i) => self.join_to(i, piece, joining),
         }
     }
 }

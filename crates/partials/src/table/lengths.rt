@@ -3,15 +3,13 @@ ghost use Rattle.std.specs.Prelude.{◌≡◌, ◌<◌, ◌≤◌, length, nat_l
 ghost use Rattle.base.specs.Limits.{body_room, max_fragments};
 ghost use Rattle.partials.specs.Places.{sum_of, all_positive};
 
+use super::row::PIECES;
+
 pub(crate) fn sum(lengths: &[u16]) -> usize
     requires { length lengths.now ≤ max_fragments }
     ensures { result ≡ sum_of lengths.now }
 {
-    let mut n = 0;
-    'lengths: for length in lengths {
-        n += usize::from(*length);
-    }
-    n
+    lengths.iter().map(|&n| usize::from(n)).sum()
 }
 
 // Whether piece `k` has come.
@@ -26,20 +24,15 @@ pub(crate) fn has_piece(lengths: &[u16], k: usize) -> bool
 pub(crate) fn all_there(lengths: &[u16]) -> bool
     ensures { result ≡ all_positive lengths.now }
 {
-    'lengths: for length in lengths {
-        if *length == 0 {
-            return false;
-        }
-    }
-    true
+    lengths.iter().all(|&n| n != 0)
 }
 
 // The lengths with piece `k` of `n` bytes.
-pub(crate) fn with_length(lengths: [u16; 16], k: usize, n: usize) -> [u16; 16]
-    requires { (k < max_fragments) × (n ≤ body_room) }
+pub(crate) fn with_length(mut lengths: [u16; PIECES], k: usize, n: usize) -> [u16; PIECES]
+    requires within { k < max_fragments }
+    requires short { n ≤ body_room }
     ensures { result ≡ slice_set lengths k n }
 {
-    let mut out = lengths;
-    out[k] = n as u16;
-    out
+    lengths[k] = n as u16;
+    lengths
 }

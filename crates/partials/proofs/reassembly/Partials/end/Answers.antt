@@ -7,8 +7,7 @@ use Rattle.partials.proofs.reassembly.Partials.end.Goals as goal
 pub invariant_of-self : goal.invariant_of-self
 invariant_of-self c =
     let p = c.args.self.now in
-    let e = c.end.ensures in
-    let s = e.sound in
-    let apart = ap distinct e.after ∙ distinct_without c.args.sender c.args.first (partials_of p) p.apart in
-    let each = ap all_unfinished e.after ∙ each-without c.args.sender c.args.first (partials_of p) p.each in
-    record { sized = s.sized; four = s.four; few = s.few; fitting = s.fitting; own = s.own; apart = apart; each = each }
+    record {
+      apart = ap distinct c.end.ensures ∙ distinct_without c.args.sender c.args.first (partials_of p) p.apart;
+      each = ap all_unfinished c.end.ensures ∙ each-without c.args.sender c.args.first (partials_of p) p.each;
+    }

@@ -1,8 +1,7 @@
-use Rattle.std.proofs.Common.{◌≤◌, [], ◌∷◌, ◌++◌, length, refl, ap, ◌∙◌, arith}
-use Rattle.base.specs.Limits.{body_room}
+use Rattle.std.proofs.Common.{[], ◌∷◌, ◌++◌, length, refl, ap, ◌∙◌, arith}
 use Rattle.partials.specs.Joining.{begun, with_piece, with_room}
-use Rattle.partials.specs.Places.{partials_in}
-use Rattle.partials.proofs.Ends.{begin_long, begin_whole, begin_kept, begins}
+use Rattle.partials.specs.Tables.{partials_in}
+use Rattle.partials.proofs.Ends.{begin_long, begin_whole, begin_kept, begun-fits, begins}
 use Rattle.partials.proofs.Keeps.{meets_refused, meets_whole, meets_kept}
 use Rattle.base.proofs.Areas.{written}
 use Rattle.partials.proofs.table.Table.begin.Goals as goal
@@ -10,31 +9,34 @@ use Rattle.partials.proofs.table.Table.begin.Goals as goal
 pub returns-then-piece-gt-BODY_ROOM : goal.returns-then-piece-gt-BODY_ROOM
 returns-then-piece-gt-BODY_ROOM c =
     let t = c.args.self.now in
-    let o = begin_long t c.args.head c.args.k c.args.piece.now c.requires.found c.requires.piece.0 c.requires.piece.1.1 (omega arith) in
-    record { meets = meets_refused (partials_in t) c.args.joining.now _ _ o c.at_fragment.ensures; sound = c.requires.sound }
+    let p = c.args.piece in
+    let o = begin_long t p.head p.index p.bytes.now c.requires p.within p.few (omega arith) in
+    meets_refused (partials_in t) c.args.joining.now _ _ o c.new.ensures
 
-pub returns-then-head-eq1 : goal.returns-then-head-eq1
-returns-then-head-eq1 c =
+pub returns-then-piece-eq1 : goal.returns-then-piece-eq1
+returns-then-piece-eq1 c =
     let t = c.args.self.now in
-    let piece = c.args.piece.now in
-    let short : length piece ≤ body_room = omega arith in
-    let o = begin_whole t c.args.head c.args.k piece c.requires.found c.requires.piece.0 c.requires.piece.1.1 short (omega arith) c.requires.piece.1.0 in
-    let joined = written c.args.joining.now 0 piece (omega (arith, c.requires.buffer)) c.write_at.new.area c.write_at.ensures.after in
-    record { meets = meets_whole (partials_in t) c.args.joining.now piece c.write_at.new.area (length piece) o refl joined; sound = c.requires.sound }
+    let p = c.args.piece in
+    let bytes = p.bytes.now in
+    let o = begin_whole t p.head p.index bytes c.requires p.within p.few (omega arith) (omega arith) p.some in
+    let joined = written c.args.joining.now 0 bytes (omega arith) c.write_at.new.area c.write_at.ensures.after in
+    meets_whole (partials_in t) c.args.joining.now bytes c.write_at.new.area (length bytes) o refl joined
+
+pub store-requires-clause-fits : goal.store-requires-clause-fits
+store-requires-clause-fits c =
+    let p = c.args.piece in
+    begun-fits c.make_room.new.self p.head c.with_length-lengths.result p.index c.row_at-spare.result.place p.bytes.now c.make_room.ensures.room (omega arith)
+    (omega arith) c.with_length-lengths.ensures (ap (λ x. x.place) c.row_at-spare.ensures.is) c.row_at-spare.ensures.place
 
 pub returns : goal.returns
 returns c =
     let t = c.args.self.now in
-    let roomy = c.make_room.new.self in
-    let head = c.args.head in
-    let k = c.args.k in
-    let piece = c.args.piece.now in
-    let new = with_piece (begun head) k piece in
-    let short : length piece ≤ body_room = omega arith in
-    let o = begin_kept t head k piece c.requires.found c.requires.piece.0 c.requires.piece.1.1 short c.if-head-eq1.false in
-    let joined = written c.args.joining.now 0 piece (omega (arith, c.requires.buffer)) c.write_at.new.area c.write_at.ensures.after in
-    let b = begins roomy.memory.now c.store.new.self.memory.now piece roomy.rows c.store.new.self.rows roomy.len head c.with_length-lengths.result k
-    c.row_at-spare.result.place c.make_room.ensures.sound c.make_room.ensures.room (omega (arith, c.requires.piece.0, c.requires.piece.1.1)) short
-    c.with_length-lengths.ensures (ap (λ x. x.place) c.row_at-spare.ensures.is) c.row_at-spare.ensures.place c.store.ensures.memory c.store.ensures.rows in
-    let e = b.0 ∙ ap (λ qs. qs ++ new ∷ []) c.make_room.ensures.after in
-    record { meets = meets_kept (partials_in t) c.args.joining.now (with_room (partials_in t) ++ new ∷ []) _ piece c.write_at.new.area o e joined; sound = b.1 }
+    let p = c.args.piece in
+    let bytes = p.bytes.now in
+    let new = with_piece (begun p.head) p.index bytes in
+    let o = begin_kept t p.head p.index bytes c.requires p.within p.few (omega arith) c.if-piece-eq1.false in
+    let joined = written c.args.joining.now 0 bytes (omega arith) c.write_at.new.area c.write_at.ensures.after in
+    let b = begins c.make_room.new.self p.head c.with_length-lengths.result p.index c.row_at-spare.result.place bytes c.make_room.ensures.room (omega arith)
+    (omega arith) c.with_length-lengths.ensures (ap (λ x. x.place) c.row_at-spare.ensures.is) c.row_at-spare.ensures.place
+    c.store.new.self.memory.now c.store.new.self.rows c.store.ensures.memory c.store.ensures.rows in
+    meets_kept (partials_in t) c.args.joining.now (with_room (partials_in t) ++ new ∷ []) _ bytes c.write_at.new.area o (b ∙ ap (λ qs. qs ++ new ∷ []) c.make_room.ensures.after) joined

@@ -4,11 +4,10 @@ use Rattle.base.specs.Limits.{body_room}
 use Rattle.partials.proofs.Cuts.{sum-front}
 use Rattle.partials.proofs.table.Table.gather.Goals as goal
 
-pub splice-requires : goal.splice-requires
-splice-requires c =
+pub splice-requires-clause-inside : goal.splice-requires-clause-inside
+splice-requires-clause-inside c =
     let start = body_room * c.args.row.place in
     let memory = c.args.self.now.memory.now in
     let used = c.sum-used.result in
     let n : length (take (start + used - start) (drop start memory)) ≡ start + used - start = length-take-le (start + used - start) (drop start memory) (simp length-drop (omega arith)) in
-    let f = sum-front c.args.row.lengths c.args.k in
-    record { inside = omega arith; room = omega arith }
+    omega (arith, sum-front c.args.row.lengths c.args.piece.index)

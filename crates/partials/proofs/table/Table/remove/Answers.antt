@@ -1,9 +1,15 @@
-use Rattle.std.proofs.Common.{arith}
-use Rattle.partials.proofs.Ends.{removes}
+use Rattle.std.proofs.Common.{◌-◌, ap, ◌∙◌}
+use Rattle.partials.specs.Places.{partials_at, count_by, misfit}
+use Rattle.partials.proofs.Ends.{fitting-removed, own-removed, removes}
 use Rattle.partials.proofs.table.Table.remove.Goals as goal
 
-pub returns : goal.returns
-returns c =
-    let self = c.args.self.now in
-    let r = removes self.memory.now self.rows c.rotate.new.rows self.len c.args.i c.requires.sound c.requires.within c.rotate.ensures in
-    record { after = r.0; len = omega (arith, c.requires.within); sound = r.1 }
+pub invariant_of-self-clause-fitting : goal.invariant_of-self-clause-fitting
+invariant_of-self-clause-fitting c = ap (count_by misfit) c.rotated-self.ensures ∙ fitting-removed c.args.self.now c.args.i c.requires.within
+
+pub invariant_of-self-clause-own : goal.invariant_of-self-clause-own
+invariant_of-self-clause-own c = rw c.rotated-self.ensures (own-removed c.args.self.now c.args.i c.requires.within)
+
+pub returns-clause-after : goal.returns-clause-after
+returns-clause-after c =
+    let t = c.args.self.now in
+    ap (λ rows. partials_at t.memory.now rows (t.len - 1)) c.rotated-self.ensures ∙ removes t c.args.i c.requires.within
