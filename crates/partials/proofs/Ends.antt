@@ -1,14 +1,16 @@
 -- Packets that go, and packets that begin.
-use Rattle.std.proofs.Common.{◌≡◌, ℕ, zero, suc, ◌+◌, ◌-◌, ◌*◌, ◌<◌, ◌≤◌, Bool, true, false, not, eqb, List, [], ◌∷◌, ◌++◌, map, length, get_or, take, drop, set, replicate, None, sym, refl, ap, ◌∙◌, inl, inr, append_assoc, add-one, arith, length-append, length-drop}
-use Rattle.std.proofs.lemmas.List.{length-take-le, length-map, take_at, take-take, drop-drop, drop-take, take-append-drop, take-map, drop-map, map-append, take_more_set, append-nil, get_or-replicate}
+use Rattle.std.specs.Prelude.{sum, count_by}
+use Rattle.std.proofs.Common.{◌≡◌, ℕ, zero, suc, ◌+◌, ◌-◌, ◌*◌, ◌<◌, ◌≤◌, Bool, true, false, not, cond, eqb, List, [], ◌∷◌, ◌++◌, map, length, get_or, take, drop, set, replicate, None, sym, refl, ap, ◌∙◌, inl, inr, append_assoc, add-one, arith, length-append, length-drop}
+use Rattle.std.proofs.lemmas.List.{length-take-le, length-map, take_at, take-take, drop-drop, drop-take, take-map, drop-map, map-append, take_more_set, append-nil, get_or-replicate}
 use Rattle.std.proofs.lemmas.Bool.{lt-ltb, le-ltb, ne_eqb, and_from, and_right, not_from_false, cases_eq}
 use Rattle.std.specs.List.{remove}
+use Rattle.std.proofs.lemmas.List.Sums.{sum_by-append, sum_by-take-drop}
 use Rattle.base.specs.Areas.{written_at}
 use Rattle.base.specs.Limits.{body_room, max_fragments}
 use Rattle.base.specs.declared.refusal.Cause.TheVariants.{FragmentsTooLong}
 use Rattle.wire.specs.Joining.{joined_pieces}
 use Rattle.partials.specs.Joining.{kept, whole, max_partials, with_room, begun, with_piece, complete, all_there, refused_for, settled, join_found, join_at}
-use Rattle.partials.specs.Places.{sum_of, rotated, no_row, index_of, partial_for, partials_at, count_by, has_place, misfit, OwnPlaces}
+use Rattle.partials.specs.Places.{rotated, no_row, index_of, partial_for, partials_at, has_place, misfit, OwnPlaces}
 use Rattle.partials.specs.Tables.{partials_in}
 use Rattle.partials.specs.declared.head.PartialHead.{PartialHead}
 use Rattle.partials.specs.declared.table.row.Row.{Row}
@@ -16,7 +18,6 @@ use Rattle.partials.specs.declared.table.Table.{Table}
 use Rattle.partials.proofs.Cuts.{sum-set}
 use Rattle.partials.proofs.Finds.{missed_at}
 use Rattle.partials.proofs.Keeps.{settled-long, settled-whole, settled-kept, fitting-row, piece-written, stored}
-use Rattle.partials.proofs.Tables.{count-append}
 
 module _ {X : Type 0} (xs : List X) (i len : ℕ) (lt : i < len) (le : len ≤ length xs) where
   long_part : length (take (len - i) (drop i xs)) ≡ len - i
@@ -53,17 +54,15 @@ module _ {X : Type 0} (xs : List X) (i len : ℕ) (lt : i < len) (le : len ≤ l
 
 pub count-rotated : (f : Row → Bool) (rows : List Row) (i len : ℕ) → count_by f (rotated rows i len) ≡ count_by f rows
 count-rotated f rows i len =
+    let one : Row → ℕ = λ r. cond (f r) 1 0 in
     let u = take (len - i) (drop i rows) in
     let v = drop (len - i) (drop i rows) in
-    let a = count-append f (take i rows) ((drop 1 u ++ take 1 u) ++ v) in
-    let b = count-append f (drop 1 u ++ take 1 u) v in
-    let c = count-append f (drop 1 u) (take 1 u) in
-    let d = count-append f (take 1 u) (drop 1 u) in
-    let e = ap (count_by f) (take-append-drop 1 u) in
-    let g = count-append f u v in
-    let h = ap (count_by f) (take-append-drop (len - i) (drop i rows)) in
-    let j = count-append f (take i rows) (drop i rows) in
-    let k = ap (count_by f) (take-append-drop i rows) in
+    let a = sum_by-append one (take i rows) ((drop 1 u ++ take 1 u) ++ v) in
+    let b = sum_by-append one (drop 1 u ++ take 1 u) v in
+    let c = sum_by-append one (drop 1 u) (take 1 u) in
+    let d = sum_by-take-drop one u 1 in
+    let e = sum_by-take-drop one (drop i rows) (len - i) in
+    let g = sum_by-take-drop one rows i in
     omega arith
 
 map-removed : {X Y : Type 0} (f : X → Y) (xs : List X) (i : ℕ) → map f (remove xs i) ≡ remove (map f xs) i
@@ -155,7 +154,7 @@ module _ (t : Table) (head : PartialHead) (lengths : List ℕ) (k place : ℕ) (
 
   pub begun-fits : misfit row ≡ false
   begun-fits =
-      let sums : sum_of lengths ≡ length piece = ap sum_of el ∙ sum-set (replicate max_fragments 0) k (length piece) within none ∙ omega arith in
+      let sums : sum lengths ≡ length piece = ap sum el ∙ sum-set (replicate max_fragments 0) k (length piece) within none ∙ omega arith in
       fitting-row row (omega arith) inside
 
   pub begins : (memory : List ℕ) (rows : List Row) → memory ≡ written_at t.memory.now (body_room * place) piece → rows ≡ set t.rows t.len row

@@ -1,4 +1,5 @@
 -- What a piece comes to in the rows.
+use Rattle.std.specs.Prelude.{sum, count_by}
 use Rattle.std.proofs.Common.{◌≡◌, ℕ, zero, suc, ◌+◌, ◌-◌, ◌*◌, ◌<◌, ◌≤◌, Bool, true, false, ◌&&◌, eqb, ltb, List, [], ◌∷◌, ◌++◌, map, length, get_or, take, drop, set, Some, Ok, Err, sym, refl, ap, ◌∙◌, arith, length-drop}
 use Rattle.std.proofs.lemmas.List.{length-take-le, drop_at, take_at}
 use Rattle.std.proofs.lemmas.Bool.{lt-ltb, le-ltb, ltb-false, eq-eqb, eqb-true, or_from, and_parts, cond-true, cond-false}
@@ -9,7 +10,7 @@ use Rattle.base.specs.declared.refusal.Refusal.{Refusal}
 use Rattle.wire.specs.Joining.{joined_pieces}
 use Rattle.wire.specs.Splitting.{cut}
 use Rattle.partials.specs.Joining.{Partial, Outcome, refused, again, kept, whole, max_partials, agree, same_checksum, complete, all_there, with_piece, refused_for, settled, join_found, join_at, join_of, join_in, misplaced}
-use Rattle.partials.specs.Places.{Meets, sum_of, all_positive, spliced, front_of, no_row, index_of, partial_for, count_by, has_place, misfit, OwnPlaces}
+use Rattle.partials.specs.Places.{Meets, all_positive, spliced, front_of, no_row, index_of, partial_for, has_place, misfit, OwnPlaces}
 use Rattle.partials.specs.Tables.{partials_in}
 use Rattle.partials.specs.declared.head.Joined.TheVariants.{Again, Kept, Whole}
 use Rattle.partials.specs.declared.head.PartialHead.{PartialHead}
@@ -66,8 +67,8 @@ agree-total a b e =
 pub no_piece : (n : ℕ) → ltb 0 n ≡ false → n ≡ 0
 no_piece n e = let l = ltb-false 0 n e in omega arith
 
-pub fitting-row : (r : Row) → sum_of r.lengths ≤ body_room → r.place < max_partials → misfit r ≡ false
-fitting-row r a b = or_from (ltb body_room (sum_of r.lengths)) (ltb 3 r.place) (le-ltb body_room (sum_of r.lengths) a) (le-ltb 3 r.place (omega arith))
+pub fitting-row : (r : Row) → sum r.lengths ≤ body_room → r.place < max_partials → misfit r ≡ false
+fitting-row r a b = or_from (ltb body_room (sum r.lengths)) (ltb 3 r.place) (le-ltb body_room (sum r.lengths) a) (le-ltb 3 r.place (omega arith))
 
 -- the partial of a row with a further piece
 abbrev pub added : List ℕ → Row → ℕ → List ℕ → Partial
@@ -75,24 +76,24 @@ added memory r k piece = with_piece (partial_for memory r) k piece
 
 -- a row and its partial
 module _ (memory : List ℕ) (r : Row) (k : ℕ) (piece : List ℕ) (size : length memory ≡ max_partials * body_room) (good : misfit r ≡ false) where
-  room : sum_of r.lengths ≤ length (drop (body_room * r.place) memory)
+  room : sum r.lengths ≤ length (drop (body_room * r.place) memory)
   room = let g = fits-at r good in simp length-drop (omega arith)
 
-  pub length_front : length (front_of memory r) ≡ sum_of r.lengths
-  length_front = length-take-le (sum_of r.lengths) (drop (body_room * r.place) memory) room
+  pub length_front : length (front_of memory r) ≡ sum r.lengths
+  length_front = length-take-le (sum r.lengths) (drop (body_room * r.place) memory) room
 
   pub pieces-front : cut r.lengths (drop (body_room * r.place) memory) ≡ cut r.lengths (front_of memory r)
-  pieces-front = let m = room in cut-take r.lengths (drop (body_room * r.place) memory) (sum_of r.lengths) (omega arith) m
+  pieces-front = let m = room in cut-take r.lengths (drop (body_room * r.place) memory) (sum r.lengths) (omega arith) m
 
   pub length-old : length (get_or (partial_for memory r).pieces k []) ≡ get_or r.lengths k 0
   length-old = length-piece r.lengths (drop (body_room * r.place) memory) k room
 
   module _ (w : k < length r.lengths) (z : get_or r.lengths k 0 ≡ 0) where
-    pub joined_is : joined_pieces (added memory r k piece).pieces ≡ spliced (sum_of (take k r.lengths)) (front_of memory r) piece
+    pub joined_is : joined_pieces (added memory r k piece).pieces ≡ spliced (sum (take k r.lengths)) (front_of memory r) piece
     joined_is = ap (λ ps. joined_pieces (set ps k piece)) pieces-front ∙ splice_joined r.lengths (front_of memory r) piece k w z (sym length_front)
 
-    pub length-joined : length (joined_pieces (added memory r k piece).pieces) ≡ sum_of r.lengths + length piece
-    length-joined = ap length joined_is ∙ length-spliced (sum_of (take k r.lengths)) (front_of memory r) piece ∙ ap (λ n. n + length piece) length_front
+    pub length-joined : length (joined_pieces (added memory r k piece).pieces) ≡ sum r.lengths + length piece
+    length-joined = ap length joined_is ∙ length-spliced (sum (take k r.lengths)) (front_of memory r) piece ∙ ap (λ n. n + length piece) length_front
 
     pub complete-is : complete (added memory r k piece) ≡ all_positive (take r.head.total (set r.lengths k (length piece)))
     complete-is = ap (λ ps. all_there (take r.head.total (set ps k piece))) pieces-front ∙ splice_there r.lengths (front_of memory r) piece k w z (sym length_front) r.head.total
@@ -106,7 +107,7 @@ module _ (memory : List ℕ) (r : Row) (k : ℕ) (piece : List ℕ) (size : leng
         let rest = drop (start + length bytes) memory in
         let d : drop start (written_at memory start bytes) ≡ bytes ++ rest = drop_at (take start memory) (bytes ++ rest) start (length-take-le start memory (omega arith)) in
         let e : cut lengths (drop start (written_at memory start bytes)) ≡ set (cut r.lengths (drop start memory)) k piece =
-        ap (cut lengths) d ∙ ap (λ x. cut lengths (x ++ rest)) (eb ∙ joined_is) ∙ ap (λ x. cut x (spliced (sum_of (take k r.lengths)) (front_of memory r) piece ++ rest)) el
+        ap (cut lengths) d ∙ ap (λ x. cut lengths (x ++ rest)) (eb ∙ joined_is) ∙ ap (λ x. cut x (spliced (sum (take k r.lengths)) (front_of memory r) piece ++ rest)) el
         ∙ splice_cut r.lengths (front_of memory r) piece rest k w z (sym length_front)
         ∙ ap (λ ps. set ps k piece) (sym pieces-front) in
         ap (λ ps. record { head = r.head; pieces = ps }) e
@@ -175,29 +176,29 @@ module _ (t : Table) (i : ℕ) (r : Row) (head : PartialHead) (k : ℕ) (piece :
           let x = found.replaced (added t.memory.now r k piece) (ap (λ x. x.head) is) in
           joins ∙ rw (a, old, z, x)
 
-      pub long : length (joined_pieces (added t.memory.now r k piece).pieces) ≡ sum_of r.lengths + length piece
+      pub long : length (joined_pieces (added t.memory.now r k piece).pieces) ≡ sum r.lengths + length piece
       long = length-joined t.memory.now r k piece t.sized good w z
 
       last : complete (added t.memory.now r k piece) ≡ all_positive (take head.total (set r.lengths k (length piece)))
       last = complete-is t.memory.now r k piece t.sized good w z ∙ ap (λ n. all_positive (take n (set r.lengths k (length piece)))) (agree-total r.head head a)
 
-      filled : (was now : List ℕ) → now ≡ written_at was 0 (spliced (sum_of (take k r.lengths)) (front_of t.memory.now r) piece)
+      filled : (was now : List ℕ) → now ≡ written_at was 0 (spliced (sum (take k r.lengths)) (front_of t.memory.now r) piece)
           → now ≡ written_at was 0 (joined_pieces (added t.memory.now r k piece).pieces)
       filled was now x = x ∙ ap (written_at was 0) (sym (joined_is t.memory.now r k piece t.sized good w z))
 
-      pub to_long : body_room < sum_of r.lengths + length piece → join_at (partials_in t) head k piece ≡ refused_for FragmentsTooLong
+      pub to_long : body_room < sum r.lengths + length piece → join_at (partials_in t) head k piece ≡ refused_for FragmentsTooLong
       to_long l = settles ∙ settled-long (added t.memory.now r k piece) _ (let n = long in omega arith)
 
       -- the row with its new piece fits its place
-      pub kept-fits : (lengths : List ℕ) → lengths ≡ set r.lengths k (length piece) → sum_of r.lengths + length piece ≤ body_room
+      pub kept-fits : (lengths : List ℕ) → lengths ≡ set r.lengths k (length piece) → sum r.lengths + length piece ≤ body_room
           → misfit (record { head = r.head; lengths = lengths; place = r.place }) ≡ false
       kept-fits lengths el short =
-          let sums : sum_of lengths ≡ sum_of r.lengths + length piece = ap sum_of el ∙ sum-set r.lengths k (length piece) w z in
+          let sums : sum lengths ≡ sum r.lengths + length piece = ap sum el ∙ sum-set r.lengths k (length piece) w z in
           fitting-row (record { head = r.head; lengths = lengths; place = r.place }) (omega arith) (fits-at r good).1
 
       -- the buffer has all pieces
-      module _ (was now : List ℕ) (n : ℕ) (wrote : now ≡ written_at was 0 (spliced (sum_of (take k r.lengths)) (front_of t.memory.now r) piece))
-          (size : n ≡ sum_of r.lengths + length piece) (short : n ≤ body_room) where
+      module _ (was now : List ℕ) (n : ℕ) (wrote : now ≡ written_at was 0 (spliced (sum (take k r.lengths)) (front_of t.memory.now r) piece))
+          (size : n ≡ sum r.lengths + length piece) (short : n ≤ body_room) where
         pub to_whole : all_positive (take head.total (set r.lengths k (length piece))) ≡ true
             → Meets (join_at (partials_in t) head k piece) (partials_in t) was (Ok (Whole n)) (partials_in t) now
         to_whole c =

@@ -1,34 +1,38 @@
 -- Rows over their places.
-use Rattle.std.proofs.Common.{◌≡◌, ℕ, zero, suc, ◌+◌, ◌*◌, ◌<◌, ◌≤◌, Bool, true, false, cond, ltb, List, [], ◌∷◌, ◌++◌, map, length, get_or, drop, set, sym, refl, ap, ◌∙◌, inl, inr, arith, length-drop}
+use Rattle.std.specs.Prelude.{sum, count_by}
+use Rattle.std.proofs.Common.{◌≡◌, ℕ, zero, suc, ◌+◌, ◌*◌, ◌<◌, ◌≤◌, Bool, true, false, cond, ltb, List, [], ◌∷◌, map, length, get_or, drop, set, sym, refl, ap, ◌∙◌, inl, inr, arith, length-drop}
 use Rattle.std.proofs.lemmas.Bool.{cases_Bool, cases_lt, cases_eq, eqb-false, ltb-false, or_parts}
+use Rattle.std.proofs.lemmas.List.Sums.{sum_by-cons, sum_by-set, get_or-le-sum_by}
 use Rattle.base.specs.Areas.{written_at}
 use Rattle.base.specs.Limits.{body_room}
 use Rattle.wire.specs.Splitting.{cut}
 use Rattle.partials.specs.Joining.{Partial, max_partials}
-use Rattle.partials.specs.Places.{sum_of, partial_for, count_by, has_place, misfit, OwnPlaces}
+use Rattle.partials.specs.Places.{partial_for, has_place, misfit, OwnPlaces}
 use Rattle.partials.specs.declared.table.row.Row.{Row}
 use Rattle.partials.proofs.Cuts.{cut-take}
 use Rattle.base.proofs.Areas.{length-written, part-below, drop-above}
 
-pub count_none : (f : Row → Bool) (r : Row) (rs : List Row) → count_by f (r ∷ rs) ≡ 0 → (f r ≡ false) × (count_by f rs ≡ 0)
-count_none f r rs e = elim (cases_Bool (f r)) [
-  | inl t ↦ absurd (let g : 1 + count_by f rs ≡ 0 = rw t at e in omega arith)
-  | inr n ↦ (n, let g : 0 + count_by f rs ≡ 0 = rw n at e in omega arith)
-]
+-- counts
+module _ (f : Row → Bool) where
+  abbrev one : Row → ℕ
+  one r = cond (f r) 1 0
 
-pub count-some : (f : Row → Bool) (rs : List Row) (i : ℕ) (d : Row) → i < length rs → f (get_or rs i d) ≡ true → 1 ≤ count_by f rs
-count-some f [] i d h t = absurd (omega arith)
-count-some f (r ∷ rs) zero d h t = let g : 1 ≤ 1 + count_by f rs = omega arith in rw t g
-count-some f (r ∷ rs) (suc i) d h t = let g = count-some f rs i d (omega arith) t in omega arith
+  count-cons : (r : Row) (rs : List Row) → count_by f (r ∷ rs) ≡ one r + count_by f rs
+  count-cons r rs = sum_by-cons one r rs
 
-pub count-append : (f : Row → Bool) (xs ys : List Row) → count_by f (xs ++ ys) ≡ count_by f xs + count_by f ys
-count-append f [] ys = omega arith
-count-append f (x ∷ xs) ys = let e = count-append f xs ys in omega arith
+  pub count_none : (r : Row) (rs : List Row) → count_by f (r ∷ rs) ≡ 0 → (f r ≡ false) × (count_by f rs ≡ 0)
+  count_none r rs e =
+      let s = count-cons r rs in
+      elim (cases_Bool (f r)) [
+        | inl t ↦ absurd (let g : one r ≡ 1 = rw t in omega arith)
+        | inr n ↦ (n, omega arith)
+      ]
 
-pub count_set : (f : Row → Bool) (rs : List Row) (i : ℕ) (d r : Row) → i < length rs → f r ≡ f (get_or rs i d) → count_by f (set rs i r) ≡ count_by f rs
-count_set f [] i d r h e = refl
-count_set f (x ∷ xs) zero d r h e = rw e
-count_set f (x ∷ xs) (suc i) d r h e = ap (λ n. cond (f x) 1 0 + n) (count_set f xs i d r (omega arith) e)
+  pub count-some : (rs : List Row) (i : ℕ) (d : Row) → i < length rs → f (get_or rs i d) ≡ true → 1 ≤ count_by f rs
+  count-some rs i d h t = let e : one (get_or rs i d) ≡ 1 = rw t in omega (arith, get_or-le-sum_by one rs i d h)
+
+  pub count_set : (rs : List Row) (i : ℕ) (d r : Row) → i < length rs → f r ≡ f (get_or rs i d) → count_by f (set rs i r) ≡ count_by f rs
+  count_set rs i d r h e = let g : one r ≡ one (get_or rs i d) = ap (λ b. cond b 1 0) e in omega (arith, sum_by-set one rs i r d h)
 
 pub none_at : (f : Row → Bool) (rs : List Row) (i : ℕ) (d : Row) → i < length rs → count_by f rs ≡ 0 → f (get_or rs i d) ≡ false
 none_at f rs i d h z = elim (cases_Bool (f (get_or rs i d))) [
@@ -48,10 +52,10 @@ own_at rs p a h = elim (cases_eq p 0) [
   ]
 ]
 
-pub fits-at : (r : Row) → misfit r ≡ false → (sum_of r.lengths ≤ body_room) × (r.place < max_partials)
+pub fits-at : (r : Row) → misfit r ≡ false → (sum r.lengths ≤ body_room) × (r.place < max_partials)
 fits-at r e =
-    let p = or_parts (ltb body_room (sum_of r.lengths)) (ltb 3 r.place) e in
-    (ltb-false body_room (sum_of r.lengths) p.0, let q = ltb-false 3 r.place p.1 in omega arith)
+    let p = or_parts (ltb body_room (sum r.lengths)) (ltb 3 r.place) e in
+    (ltb-false body_room (sum r.lengths) p.0, let q = ltb-false 3 r.place p.1 in omega arith)
 
 -- a write into one place
 module _ (memory b : List ℕ) (p : ℕ) (size : length memory ≡ max_partials * body_room) (lt : p < max_partials) (fits : length b ≤ body_room) where
@@ -90,15 +94,16 @@ module _ (memory b : List ℕ) (p : ℕ) (size : length memory ≡ max_partials 
       → map (partial_for (written_at memory (body_room * p) b)) (set rows i row) ≡ set (map (partial_for memory) rows) i new
   changed [] i d row new h t a g e = absurd (omega arith)
   changed (r ∷ rs) zero d row new h t a g e =
-      let x : count_by (has_place p) rs ≡ 0 = let y : 1 + count_by (has_place p) rs ≡ 1 = rw t at a in omega arith in
+      let x : count_by (has_place p) rs ≡ 0 = let c = count-cons (has_place p) r rs in let y : one (has_place p) r ≡ 1 = rw t in omega arith in
       let f = others rs x (count_none misfit r rs g).1 in
       cc
   changed (r ∷ rs) (suc i) d row new h t a g e =
       let s = count-some (has_place p) rs i d (omega arith) t in
+      let c = count-cons (has_place p) r rs in
       elim (cases_Bool (has_place p r)) [
-        | inl y ↦ absurd (let z : 1 + count_by (has_place p) rs ≡ 1 = rw y at a in omega arith)
+        | inl y ↦ absurd (let z : one (has_place p) r ≡ 1 = rw y in omega arith)
         | inr n ↦
-            let z : count_by (has_place p) rs ≡ 1 = let y : 0 + count_by (has_place p) rs ≡ 1 = rw n at a in omega arith in
+            let z : count_by (has_place p) rs ≡ 1 = let y : one (has_place p) r ≡ 0 = rw n in omega arith in
             let w = count_none misfit r rs g in
             let f = changed rs i d row new (omega arith) t z w.1 e in
             let o = other_place r n w.0 in

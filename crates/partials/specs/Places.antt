@@ -1,5 +1,5 @@
 -- How partials lie in rows and memory, and what holds of these at all times.
-use Rattle.std.specs.Prelude.{◌≡◌, ℕ, ◌+◌, ◌-◌, ◌*◌, ◌≤◌, Bool, cond, not, ◌||◌, List, [], ◌∷◌, ◌++◌, map, length, take, drop, Some, None, Option, Result, ◌==◌, nat_lt}
+use Rattle.std.specs.Prelude.{◌≡◌, ℕ, ◌+◌, ◌-◌, ◌*◌, ◌≤◌, Bool, cond, not, ◌||◌, List, [], ◌∷◌, ◌++◌, map, length, take, drop, sum, count_by, Some, None, Option, Result, ◌==◌, nat_lt}
 use Rattle.std.specs.List.{list_all}
 use Rattle.base.specs.Areas.{written_at}
 use Rattle.base.specs.Limits.{body_room}
@@ -8,10 +8,6 @@ use Rattle.wire.specs.Splitting.{cut}
 use Rattle.partials.specs.Joining.{Partial, Outcome, max_partials, is_head_of, answer_of, after_of, bytes_of}
 use Rattle.partials.specs.declared.head.Joined.{Joined}
 use Rattle.partials.specs.declared.table.row.Row.{Row}
-
-abbrev pub sum_of : List ℕ → ℕ
-sum_of [] = 0
-sum_of (n ∷ ns) = n + sum_of ns
 
 abbrev pub all_positive : List ℕ → Bool
 all_positive ns = list_all (λ n. not (n == 0)) ns
@@ -22,7 +18,7 @@ partial_for memory r = record { head = r.head; pieces = cut r.lengths (drop (bod
 
 -- the front of a row's place: its pieces one after another
 abbrev pub front_of : List ℕ → Row → List ℕ
-front_of memory r = take (sum_of r.lengths) (drop (body_room * r.place) memory)
+front_of memory r = take (sum r.lengths) (drop (body_room * r.place) memory)
 
 -- bytes with a piece put in at a place
 abbrev pub spliced : ℕ → List ℕ → List ℕ → List ℕ
@@ -49,16 +45,12 @@ index_of sender first (r ∷ rs) = cond (is_head_of sender first r.head) (Some 0
 abbrev pub partials_at : List ℕ → List Row → ℕ → List Partial
 partials_at memory rows len = take len (map (partial_for memory) rows)
 
-abbrev pub count_by : (Row → Bool) → List Row → ℕ
-count_by f [] = 0
-count_by f (r ∷ rs) = cond (f r) 1 0 + count_by f rs
-
 abbrev pub has_place : ℕ → Row → Bool
 has_place place r = r.place == place
 
 -- a row whose pieces do not fit a place, or whose place is none of the four
 abbrev pub misfit : Row → Bool
-misfit r = nat_lt body_room (sum_of r.lengths) || nat_lt 3 r.place
+misfit r = nat_lt body_room (sum r.lengths) || nat_lt 3 r.place
 
 -- each of the four places is one row's
 abbrev pub OwnPlaces : List Row → Type 0

@@ -1,8 +1,8 @@
 // Packets in reassembly as rows, with their bytes in lent memory.
-ghost use Rattle.std.specs.Prelude.{◌≡◌, ◌*◌, ◌≤◌, length};
+ghost use Rattle.std.specs.Prelude.{◌≡◌, ◌*◌, ◌≤◌, length, count_by};
 ghost use Rattle.base.specs.Limits.{body_room};
 ghost use Rattle.partials.specs.Joining.{max_partials};
-ghost use Rattle.partials.specs.Places.{count_by, misfit, OwnPlaces};
+ghost use Rattle.partials.specs.Places.{misfit, OwnPlaces};
 
 mod ending;
 mod finding;

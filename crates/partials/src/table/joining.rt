@@ -1,9 +1,9 @@
 // Pieces that come.
-ghost use Rattle.std.specs.Prelude.{◌≡◌, ◌+◌, ◌*◌, ◌<◌, ◌≤◌, false, length, take, Some, None, slice_index_or, slice_set};
+ghost use Rattle.std.specs.Prelude.{◌≡◌, ◌+◌, ◌*◌, ◌<◌, ◌≤◌, false, length, take, Some, None, slice_index_or, slice_set, sum};
 ghost use Rattle.base.specs.Areas.{written_at};
 ghost use Rattle.base.specs.Limits.{body_room};
 ghost use Rattle.partials.specs.Joining.{max_partials, join_at};
-ghost use Rattle.partials.specs.Places.{Meets, sum_of, spliced, front_of, no_row, index_of, misfit};
+ghost use Rattle.partials.specs.Places.{Meets, spliced, front_of, no_row, index_of, misfit};
 ghost use Rattle.partials.specs.Tables.{partials_in};
 
 use super::Table;
@@ -44,7 +44,7 @@ impl Table<'_> {
     fn row_at(&self, i: usize) -> Row
         requires within { i < max_partials }
         ensures is { result ≡ slice_index_or self.now.rows i no_row }
-        ensures fits { sum_of result.lengths ≤ body_room }
+        ensures fits { sum result.lengths ≤ body_room }
         ensures place { result.place < max_partials }
     {
         self.rows[i]
@@ -53,8 +53,8 @@ impl Table<'_> {
     // Writes the pieces of a row, with a new piece among them, to the front of `out`.
     fn gather(&self, row: Row, piece: Piece<'_>, out: &mut [u8; BODY_ROOM])
         requires place { row.place < max_partials }
-        requires room { sum_of row.lengths + length piece.bytes.now ≤ body_room }
-        ensures { out.new ≡ written_at out.old 0 (spliced (sum_of (take piece.entry.index row.lengths)) (front_of self.now.memory.now row) piece.entry.bytes.now) }
+        requires room { sum row.lengths + length piece.bytes.now ≤ body_room }
+        ensures { out.new ≡ written_at out.old 0 (spliced (sum (take piece.entry.index row.lengths)) (front_of self.now.memory.now row) piece.entry.bytes.now) }
     {
         let used = sum(&row.lengths);
         let start = BODY_ROOM * row.place;

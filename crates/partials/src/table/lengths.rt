@@ -1,13 +1,13 @@
 // The lengths of the pieces of a packet.
-ghost use Rattle.std.specs.Prelude.{◌≡◌, ◌<◌, ◌≤◌, length, nat_lt, slice_index, slice_set};
+ghost use Rattle.std.specs.Prelude.{◌≡◌, ◌<◌, ◌≤◌, length, nat_lt, slice_index, slice_set, sum};
 ghost use Rattle.base.specs.Limits.{body_room, max_fragments};
-ghost use Rattle.partials.specs.Places.{sum_of, all_positive};
+ghost use Rattle.partials.specs.Places.{all_positive};
 
 use super::row::PIECES;
 
 pub(crate) fn sum(lengths: &[u16]) -> usize
     requires { length lengths.now ≤ max_fragments }
-    ensures { result ≡ sum_of lengths.now }
+    ensures { result ≡ sum lengths.now }
 {
     lengths.iter().map(|&n| usize::from(n)).sum()
 }

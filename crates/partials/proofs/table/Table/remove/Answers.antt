@@ -1,5 +1,6 @@
+use Rattle.std.specs.Prelude.{count_by}
 use Rattle.std.proofs.Common.{◌-◌, ap, ◌∙◌}
-use Rattle.partials.specs.Places.{partials_at, count_by, misfit}
+use Rattle.partials.specs.Places.{partials_at, misfit}
 use Rattle.partials.proofs.Ends.{fitting-removed, own-removed, removes}
 use Rattle.partials.proofs.table.Table.remove.Goals as goal
 
