@@ -126,6 +126,9 @@ take-set_within (suc n) i [] x h = refl
 take-set_within (suc n) zero (y ∷ ys) x h = refl
 take-set_within (suc n) (suc i) (y ∷ ys) x h = ap (λ zs. y ∷ zs) (take-set_within n i ys x (omega arith))
 
+pub at-fits : (t : Table) (i : ℕ) → i < max_partials → (sum (get_or t.rows i no_row).lengths ≤ body_room) × ((get_or t.rows i no_row).place < max_partials)
+at-fits t i lt = fits-at (get_or t.rows i no_row) (none_at misfit t.rows i no_row (omega arith) t.fitting)
+
 -- a row changed, and its bytes written to its place
 module _ (t : Table) (i : ℕ) (row : Row) (lt : i < max_partials) (same : row.place ≡ (get_or t.rows i no_row).place) (good : misfit row ≡ false) where
   pub fitting-stored : count_by misfit (set t.rows i row) ≡ 0
@@ -145,8 +148,10 @@ module _ (t : Table) (i : ℕ) (row : Row) (lt : i < max_partials) (same : row.p
       changed t.memory.now bytes p t.sized g.1 short t.rows i no_row row new (omega arith) there (own_at t.rows p t.own g.1) t.fitting e
 
 -- what a piece of the packet in the row at i comes to
-module _ (t : Table) (i : ℕ) (r : Row) (head : PartialHead) (k : ℕ) (piece : List ℕ)
-    (e : index_of head.sender head.first (take t.len t.rows) ≡ Some i) (is : r ≡ get_or t.rows i no_row) where
+module _ (t : Table) (i : ℕ) (head : PartialHead) (k : ℕ) (piece : List ℕ) (e : index_of head.sender head.first (take t.len t.rows) ≡ Some i) where
+  abbrev r : Row
+  r = get_or t.rows i no_row
+
   found : FoundAt t.memory.now t.rows t.len head.sender head.first i
   found = found_at t.memory.now t.rows t.len head.sender head.first i (let n = t.four in let m = t.few in omega arith) e
 
@@ -154,10 +159,10 @@ module _ (t : Table) (i : ℕ) (r : Row) (head : PartialHead) (k : ℕ) (piece :
   within = found.within
 
   pub good : misfit r ≡ false
-  good = ap misfit is ∙ none_at misfit t.rows i no_row (let n = t.four in let m = t.few in let w = within in omega arith) t.fitting
+  good = none_at misfit t.rows i no_row (let n = t.four in let m = t.few in let w = within in omega arith) t.fitting
 
   joins : join_at (partials_in t) head k piece ≡ join_found (Some (partial_for t.memory.now r)) (partials_in t) head k piece
-  joins = ap (λ o. join_found o (partials_in t) head k piece) (found.is ∙ ap (λ x. Some (partial_for t.memory.now x)) (sym is))
+  joins = ap (λ o. join_found o (partials_in t) head k piece) found.is
 
   pub to_disagree : agree r.head head ≡ false → join_at (partials_in t) head k piece ≡ refused_for FragmentMismatch
   to_disagree a = joins ∙ rw a
@@ -173,7 +178,7 @@ module _ (t : Table) (i : ℕ) (r : Row) (head : PartialHead) (k : ℕ) (piece :
           ≡ settled (added t.memory.now r k piece) (set (partials_in t) i (added t.memory.now r k piece))
       settles =
           let old = length-old t.memory.now r k piece t.sized good in
-          let x = found.replaced (added t.memory.now r k piece) (ap (λ x. x.head) is) in
+          let x = found.replaced (added t.memory.now r k piece) refl in
           joins ∙ rw (a, old, z, x)
 
       pub long : length (joined_pieces (added t.memory.now r k piece).pieces) ≡ sum r.lengths + length piece
@@ -218,7 +223,7 @@ module _ (t : Table) (i : ℕ) (r : Row) (head : PartialHead) (k : ℕ) (piece :
             let x = filled was now wrote in
             let bytes : take n now ≡ joined_pieces new.pieces = front_written was now (joined_pieces new.pieces) n x (omega arith) in
             let fits = kept-fits lengths el (omega arith) in
-            let f = stored t i row (let w = within in omega (arith, t.few)) (ap (λ y. y.place) is) fits (take n now) new (omega (arith, ap length bytes))
+            let f = stored t i row (let w = within in omega (arith, t.few)) refl fits (take n now) new (omega (arith, ap length bytes))
             (piece-written memory r k piece t.sized good w z (take n now) lengths bytes el) in
             let after : partials_in u ≡ set (partials_in t) i new = rw (em, er, en) (ap (take t.len) f ∙ take-set_within t.len i (map (partial_for memory) t.rows) new within) in
             meets_kept (partials_in t) was (set (partials_in t) i new) (partials_in u) (joined_pieces new.pieces) now (settles ∙ settled-kept new _ (omega arith) (last ∙ c)) after x

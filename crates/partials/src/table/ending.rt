@@ -27,6 +27,7 @@ impl Table<'_> {
         ensures len { self.new.len + 1 ≡ self.old.len }
     {
         let len = self.len;
+        // The rows cannot be lent in place, beside memory that is lent.
         self.rows = rotated(self.rows, i, len);
         self.len = len - 1;
     }

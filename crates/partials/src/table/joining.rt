@@ -40,16 +40,6 @@ impl Table<'_> {
         self.rows[i] = row;
     }
 
-    // The row at `i`: its pieces fit a place, and its place is one of the four.
-    fn row_at(&self, i: usize) -> Row
-        requires within { i < max_partials }
-        ensures is { result ≡ slice_index_or self.now.rows i no_row }
-        ensures fits { sum result.lengths ≤ body_room }
-        ensures place { result.place < max_partials }
-    {
-        self.rows[i]
-    }
-
     // Writes the pieces of a row, with a new piece among them, to the front of `out`.
     fn gather(&self, row: Row, piece: Piece<'_>, out: &mut [u8; BODY_ROOM])
         requires place { row.place < max_partials }
@@ -76,7 +66,7 @@ impl Table<'_> {
         requires { index_of piece.head.sender piece.head.first (take self.old.len self.old.rows) ≡ Some i }
         ensures { Meets (join_at (partials_in self.old) piece.entry.head piece.entry.index piece.entry.bytes.now) (partials_in self.old) joining.old result (partials_in self.new) joining.new }
     {
-        let row = self.row_at(i);
+        let row = self.rows[i];
         if !row.head.agrees(piece.head) {
             return Err(Refusal::new(Cause::FragmentMismatch, FRAGMENT_PLACE));
         }
@@ -111,17 +101,12 @@ impl Table<'_> {
         }
         self.make_room();
         let at = self.len;
-        let spare = self.row_at(at);
-        let lengths = with_length([0; PIECES], piece.index, piece.bytes.len());
-        self.store(
-            at,
-            Row {
-                head: piece.head,
-                lengths,
-                ..spare
-            },
-            piece.bytes,
-        );
+        let row = Row {
+            head: piece.head,
+            lengths: with_length([0; PIECES], piece.index, piece.bytes.len()),
+            place: self.rows[at].place,
+        };
+        self.store(at, row, piece.bytes);
         self.len = at + 1;
         Ok(Joined::Kept)
     }

@@ -33,6 +33,7 @@ pub(crate) fn with_length(mut lengths: [u16; PIECES], k: usize, n: usize) -> [u1
     requires short { n ≤ body_room }
     ensures { result ≡ slice_set lengths k n }
 {
+    // `as`, since a length of at most 4,096 fits: `try_from` would bring an error that cannot come.
     lengths[k] = n as u16;
     lengths
 }
