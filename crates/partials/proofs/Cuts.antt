@@ -41,10 +41,6 @@ joined-cut (n ∷ ns) bs h =
     let e : joined_pieces (cut ns (drop n bs)) ≡ take (sum ns) (drop n bs) = joined-cut ns (drop n bs) (simp length-drop (omega arith)) in
     ap (λ x. take n bs ++ x) e ∙ take-plus n (sum ns) bs ∙ ap (λ m. take m bs) (sym s)
 
-pub length_cut : (lengths bs : List ℕ) → length (cut lengths bs) ≡ length lengths
-length_cut [] bs = refl
-length_cut (n ∷ ns) bs = ap suc (length_cut ns (drop n bs))
-
 pub take-cut : (lengths bs : List ℕ) (t : ℕ) → take t (cut lengths bs) ≡ cut (take t lengths) bs
 take-cut [] bs zero = refl
 take-cut [] bs (suc t) = refl

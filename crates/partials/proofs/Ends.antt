@@ -23,19 +23,6 @@ module _ {X : Type 0} (xs : List X) (i len : ℕ) (lt : i < len) (le : len ≤ l
   long_part : length (take (len - i) (drop i xs)) ≡ len - i
   long_part = length-take-le (len - i) (drop i xs) (simp length-drop (omega arith))
 
-  pub length-rotated : length (rotated xs i len) ≡ length xs
-  length-rotated =
-      let p = long_part in
-      let a = length-append (take i xs) ((drop 1 (take (len - i) (drop i xs)) ++ take 1 (take (len - i) (drop i xs))) ++ drop (len - i) (drop i xs)) in
-      let b = length-append (drop 1 (take (len - i) (drop i xs)) ++ take 1 (take (len - i) (drop i xs))) (drop (len - i) (drop i xs)) in
-      let c = length-append (drop 1 (take (len - i) (drop i xs))) (take 1 (take (len - i) (drop i xs))) in
-      let d = length-take-le i xs (omega arith) in
-      let e = length-drop 1 (take (len - i) (drop i xs)) in
-      let f = length-take-le 1 (take (len - i) (drop i xs)) (omega arith) in
-      let g = length-drop (len - i) (drop i xs) in
-      let h = length-drop i xs in
-      omega arith
-
   pub front_rotated : take (len - 1) (rotated xs i len) ≡ remove (take len xs) i
   front_rotated =
       let p = long_part in
@@ -70,9 +57,6 @@ map-removed f xs i = map-append f (take i xs) (drop (suc i) xs) ∙ ap (λ l. l 
 
 -- the row at i taken out of use
 module _ (t : Table) (i : ℕ) (lt : i < t.len) where
-  pub length-removed : length (rotated t.rows i t.len) ≡ max_partials
-  length-removed = length-rotated t.rows i t.len lt (omega arith) ∙ t.four
-
   pub fitting-removed : count_by misfit (rotated t.rows i t.len) ≡ 0
   fitting-removed = count-rotated misfit t.rows i t.len ∙ t.fitting
 
@@ -86,14 +70,14 @@ module _ (t : Table) (i : ℕ) (lt : i < t.len) where
       take-map f (t.len - 1) (rotated t.rows i t.len) ∙ ap (map f) g ∙ map-removed f (take t.len t.rows) i ∙ ap (λ l. remove l i) (sym (take-map f t.len t.rows))
 
 module _ (t : Table) where
-  pub length-in : length (partials_in t) ≡ t.len
-  length-in = let l = length-map t.rows (partial_for t.memory.now) in length-take-le t.len (map (partial_for t.memory.now) t.rows) (omega arith)
+  pub length_in : length (partials_in t) ≡ t.len
+  length_in = let l = length-map t.rows (partial_for t.memory.now) in length-take-le t.len (map (partial_for t.memory.now) t.rows) (omega arith)
 
-  pub room-none : t.len < max_partials → partials_in t ≡ with_room (partials_in t)
-  room-none lt = let l = length-in in let w = lt-ltb (length (partials_in t)) max_partials (omega arith) in rw w
+  pub room_none : t.len < max_partials → partials_in t ≡ with_room (partials_in t)
+  room_none lt = let l = length_in in let w = lt-ltb (length (partials_in t)) max_partials (omega arith) in rw w
 
-  pub room-one : max_partials ≤ t.len → remove (partials_in t) 0 ≡ with_room (partials_in t)
-  room-one le = let l = length-in in let w = le-ltb (length (partials_in t)) max_partials (omega arith) in rw w
+  pub room_one : max_partials ≤ t.len → remove (partials_in t) 0 ≡ with_room (partials_in t)
+  room_one le = let l = length_in in let w = le-ltb (length (partials_in t)) max_partials (omega arith) in rw w
 
 -- a packet with its first piece
 joined-none : (n : ℕ) → joined_pieces (replicate n []) ≡ []

@@ -1,6 +1,6 @@
 -- What a piece comes to in the rows.
 use Rattle.std.specs.Prelude.{sum, count_by}
-use Rattle.std.proofs.Common.{◌≡◌, ℕ, zero, suc, ◌+◌, ◌-◌, ◌*◌, ◌<◌, ◌≤◌, Bool, true, false, ◌&&◌, eqb, ltb, List, [], ◌∷◌, ◌++◌, map, length, get_or, take, drop, set, Some, Ok, Err, sym, refl, ap, ◌∙◌, arith, length-drop}
+use Rattle.std.proofs.Common.{length-set, ◌≡◌, ℕ, zero, suc, ◌+◌, ◌-◌, ◌*◌, ◌<◌, ◌≤◌, Bool, true, false, ◌&&◌, eqb, ltb, List, [], ◌∷◌, ◌++◌, map, length, get_or, take, drop, set, Some, Ok, Err, sym, refl, ap, ◌∙◌, arith, length-drop}
 use Rattle.std.proofs.lemmas.List.{length-take-le, drop_at, take_at}
 use Rattle.std.proofs.lemmas.Bool.{lt-ltb, le-ltb, ltb-false, eq-eqb, eqb-true, or_from, and_parts, cond-true, cond-false}
 use Rattle.base.specs.Areas.{written_at}
@@ -131,11 +131,14 @@ at-fits t i lt = fits-at (get_or t.rows i no_row) (none_at misfit t.rows i no_ro
 
 -- a row changed, and its bytes written to its place
 module _ (t : Table) (i : ℕ) (row : Row) (lt : i < max_partials) (same : row.place ≡ (get_or t.rows i no_row).place) (good : misfit row ≡ false) where
-  pub fitting-stored : count_by misfit (set t.rows i row) ≡ 0
-  fitting-stored = count_set misfit t.rows i no_row row (omega arith) (good ∙ sym (none_at misfit t.rows i no_row (omega arith) t.fitting)) ∙ t.fitting
+  pub length_stored : length (set t.rows i row) ≡ max_partials
+  length_stored = length-set t.rows i row ∙ t.four
 
-  pub own-stored : OwnPlaces (set t.rows i row)
-  own-stored =
+  pub fitting_stored : count_by misfit (set t.rows i row) ≡ 0
+  fitting_stored = count_set misfit t.rows i no_row row (omega arith) (good ∙ sym (none_at misfit t.rows i no_row (omega arith) t.fitting)) ∙ t.fitting
+
+  pub own_stored : OwnPlaces (set t.rows i row)
+  own_stored =
       let q : (n : ℕ) → count_by (has_place n) (set t.rows i row) ≡ count_by (has_place n) t.rows = λ n. count_set (has_place n) t.rows i no_row row (omega arith) (ap (λ x. eqb x n) same) in
       (q 0 ∙ t.own.0, q 1 ∙ t.own.1, q 2 ∙ t.own.2, q 3 ∙ t.own.3)
 

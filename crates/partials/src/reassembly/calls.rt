@@ -37,6 +37,7 @@ impl<'a> Partials<'a> {
     }
 
     /// Whether no packet is in reassembly.
+    #[tactic(auto, using(crate::proofs::Ends::length_in))]
     pub fn is_empty(&self) -> bool
         ensures { result ≡ (length (partials_of self.now) == 0) }
     {

@@ -27,12 +27,13 @@ impl Table<'_> {
         ensures len { self.new.len + 1 ≡ self.old.len }
     {
         let len = self.len;
-        // The rows cannot be lent in place, beside memory that is lent.
+        // The rows are copied, since they cannot be lent in place beside lent memory.
         self.rows = rotated(self.rows, i, len);
         self.len = len - 1;
     }
 
     // A spare row, at the cost of the packet begun first where there is none.
+    #[tactic(auto, using(crate::proofs::Ends::room_none, crate::proofs::Ends::room_one))]
     pub(crate) fn make_room(&mut self)
         ensures after { partials_in self.new ≡ with_room (partials_in self.old) }
         ensures room { self.new.len < max_partials }

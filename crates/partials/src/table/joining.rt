@@ -27,6 +27,7 @@ fn splice(front: &[u8], at: usize, piece: &[u8], out: &mut [u8])
 
 impl Table<'_> {
     // Writes bytes to the front of a row's place, and the row itself at `i`.
+    #[tactic(auto, using(crate::proofs::Keeps::fitting_stored, crate::proofs::Keeps::own_stored, crate::proofs::Keeps::length_stored))]
     fn store(&mut self, i: usize, row: Row, bytes: &[u8])
         requires within { i < max_partials }
         requires fits { misfit row ≡ false }
