@@ -1,6 +1,7 @@
 // The sending half of the wire: packing a datagram, and what ties packing to reading.
 #![tactic(auto)]
 
+mod accepted;
 pub mod packer;
 pub mod packing;
 mod piece;

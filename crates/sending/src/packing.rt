@@ -17,6 +17,7 @@ pub struct Packing {
     pub sealed: bool,
     /// Whether the header has the plain body's checksum.
     pub checksum: bool,
+    // Two numbers and no Option: who asks for a fragment and gives no piece size is to be refused.
     /// The bytes of a piece where the packet is sent in fragments, else 0.
     pub piece_size: usize,
     /// The number of the fragment, from 1; 0 where there are none.
@@ -34,20 +35,11 @@ impl Packing {
     pub(crate) fn flag_word(self) -> u16
         ensures { result ≡ flag_for self }
     {
-        let mut flag = 0x3080;
-        if self.duplicate {
-            flag += 0x8000;
-        }
-        if self.sealed {
-            flag += 0x100;
-        }
-        if self.is_cut() {
-            flag += 0x40;
-        }
-        if self.checksum {
-            flag += 0x20;
-        }
-        flag
+        0x3080
+            + 0x8000 * u16::from(self.duplicate)
+            + 0x100 * u16::from(self.sealed)
+            + 0x40 * u16::from(self.is_cut())
+            + 0x20 * u16::from(self.checksum)
     }
 
     pub(crate) fn header_words(self) -> u8

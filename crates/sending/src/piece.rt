@@ -17,9 +17,8 @@ fn piece_at(size: usize, number: u16, body: &[u8]) -> &[u8]
     ensures { result.now ≡ piece_at size number body.now }
 {
     let before = size.saturating_mul(usize::from(number.saturating_sub(1)));
-    let from = before.min(body.len());
-    let to = from + size.min(body.len() - from);
-    &body[from..to]
+    let rest = body.get(before..).unwrap_or(&[]);
+    &rest[..size.min(rest.len())]
 }
 
 // The part of a body that the datagram carries.
