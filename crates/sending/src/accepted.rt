@@ -22,6 +22,7 @@ pub(crate) struct Accepted<'a> {
 
 impl Accepted<'_> {
     // The five words that every header has.
+    #[tactic(auto, using(base::proofs::Fields::eight_bytes))]
     fn append_head(&self, writer: &mut Writer<'_>)
         requires { written writer.old ≡ [] }
         ensures reference { writer.new.buffer.ghost_name ≡ writer.old.buffer.ghost_name }
@@ -66,6 +67,7 @@ impl Accepted<'_> {
     }
 
     // Writes the datagram, and zeros behind it.
+    #[tactic(auto, unfolding(crate::specs::Packing::datagram_for))]
     pub(crate) fn write<C: SealingCoder>(&self, coder: &C, buffer: &mut [u8]) -> usize
         requires { length buffer.old ≡ 1472 }
         ensures end { result ≡ length (datagram_for (C.SealingCoder.seals coder.now) self.now.packing self.now.plain.now) }

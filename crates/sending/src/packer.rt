@@ -65,6 +65,7 @@ fn ready_rows<C: SealingCoder>(coder: &C, packing: Packing) -> Result<(), Refusa
 }
 
 // Tries all rows.
+#[tactic(auto, using(crate::proofs::Tested::tested_steps))]
 fn accept<'a, C: SealingCoder>(
     coder: &C,
     packing: Packing,
@@ -83,6 +84,7 @@ fn accept<'a, C: SealingCoder>(
 
 /// Packs a datagram into a buffer of 1,472 bytes and answers its length; zero stands behind it. A refusal leaves the
 /// buffer as it was. What is packed is read back as it was asked for.
+#[tactic(auto, using(crate::proofs::Tested::packed_tested))]
 pub fn pack<C: SealingCoder>(
     coder: &C,
     packing: Packing,

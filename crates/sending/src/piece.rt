@@ -5,6 +5,7 @@ ghost use Rattle.sending.specs.Packing.{total_for, piece_at, piece_of};
 use crate::packing::Packing;
 
 // How many fragments a body has.
+#[tactic(auto, using(crate::proofs::Cutting::rounded_up))]
 pub(crate) fn total_for(size: usize, bytes: usize) -> usize
     requires { 0 < size }
     ensures { result ≡ total_for size bytes }
