@@ -1,4 +1,4 @@
--- Bodies in pieces.
+-- How many pieces a body is cut into.
 use Rattle.std.proofs.Common.{◌≡◌, ℕ, zero, suc, ◌+◌, ◌-◌, ◌*◌, ◌/◌, ◌%◌, ◌<◌, min, sym, ap, ◌∙◌, mod-lt, add-mul, div-add-mod', arith}
 use native.Mathlib.Nat.{div-eq_of_lt-le}
 

@@ -4,7 +4,6 @@ ghost use Rattle.sending.specs.Packing.{piece_of, head_for, header_for, coded_fo
 ghost use Rattle.sending.specs.Writing.{written};
 
 use crate::packing::Packing;
-use crate::piece::{piece_of, total_for};
 use crate::writer::Writer;
 use base::adler32;
 use base::limits::BODY_ROOM;
@@ -44,7 +43,7 @@ impl Accepted<'_> {
     {
         self.append_head(writer);
         if self.packing.is_cut() {
-            let total = total_for(self.packing.piece_size, self.plain.len()) as u16;
+            let total = self.packing.total_for(self.plain) as u16;
             writer.append(&total.to_be_bytes());
             writer.append(&self.packing.fragment.to_be_bytes());
         }
@@ -78,7 +77,7 @@ impl Accepted<'_> {
         let coded = self.encode(coder, &mut room);
         let mut writer = Writer::new(buffer);
         self.append_header(&mut writer);
-        writer.append(piece_of(self.packing, coded));
+        writer.append(self.packing.piece_of(coded));
         writer.append_trailer();
         writer.finish()
     }

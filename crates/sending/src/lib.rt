@@ -4,7 +4,6 @@
 mod accepted;
 pub mod packer;
 pub mod packing;
-mod piece;
 pub mod theorems;
 mod writer;
 

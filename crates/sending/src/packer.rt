@@ -6,7 +6,6 @@ ghost use Rattle.sending.specs.Round.{ReadBack};
 
 use crate::accepted::Accepted;
 use crate::packing::Packing;
-use crate::piece::{piece_of, total_for};
 use base::limits::{BODY_ROOM, MAX_DATAGRAM, MAX_FRAGMENTS, MAX_MESSAGES, MAX_NUMBER, TRAILER};
 use base::{Cause, Refusal};
 use parts::SealingCoder;
@@ -38,7 +37,7 @@ fn piece_rows(packing: Packing, plain: &[u8]) -> Result<(), Refusal>
 {
     let refusal = Refusal::new(Cause::PackArgument, 0);
     if packing.is_cut() {
-        let total = total_for(packing.piece_size, plain.len());
+        let total = packing.total_for(plain);
         if total > usize::from(MAX_FRAGMENTS) {
             return Err(refusal);
         }
@@ -49,7 +48,7 @@ fn piece_rows(packing: Packing, plain: &[u8]) -> Result<(), Refusal>
         return Err(refusal);
     }
     let header = 4 * usize::from(packing.header_words());
-    if piece_of(packing, plain).len() > MAX_DATAGRAM - TRAILER - header {
+    if packing.piece_of(plain).len() > MAX_DATAGRAM - TRAILER - header {
         return Err(refusal);
     }
     Ok(())

@@ -1,6 +1,6 @@
 // What a datagram is packed from.
-ghost use Rattle.std.specs.Prelude.{◌≡◌};
-ghost use Rattle.sending.specs.Packing.{is_cut, flag_for, header_words};
+ghost use Rattle.std.specs.Prelude.{◌≡◌, ◌<◌, length};
+ghost use Rattle.sending.specs.Packing.{is_cut, flag_for, header_words, total_for, piece_of};
 
 /// What a datagram is packed from, besides the plain body of its packet.
 #[derive(Clone, Copy)]
@@ -46,5 +46,28 @@ impl Packing {
         ensures { result ≡ header_words self }
     {
         5 + u8::from(self.is_cut()) + u8::from(self.checksum)
+    }
+
+    // How many fragments a body has.
+    #[tactic(auto, using(crate::proofs::Cutting::rounded_up))]
+    pub(crate) fn total_for(self, body: &[u8]) -> usize
+        requires { 0 < self.piece_size }
+        ensures { result ≡ total_for self.piece_size (length body.now) }
+    {
+        body.len().div_ceil(self.piece_size)
+    }
+
+    // The part of a body that the datagram carries.
+    pub(crate) fn piece_of(self, body: &[u8]) -> &[u8]
+        ensures { result.now ≡ piece_of self body.now }
+    {
+        if !self.is_cut() {
+            return body;
+        }
+        let before = self
+            .piece_size
+            .saturating_mul(usize::from(self.fragment.saturating_sub(1)));
+        let rest = body.get(before..).unwrap_or(&[]);
+        &rest[..self.piece_size.min(rest.len())]
     }
 }
