@@ -24,7 +24,7 @@ pub frame_passes : (d : List ℕ) → 24 ≤ length d → length d ≤ 1472 → 
     → be 4 d (length d - 4) ≡ adler_of (take (length d - 4) d) → frame_of d ≡ Ok (head_of d)
 unfolding frame_of
 frame_passes d h i a b t =
-    let rows : Pass (frame_rows d) = (grind (arith, nat_tests), (grind (arith, nat_tests), (grind (arith, nat_tests), (grind (arith, nat_tests), tt)))) in
+    let rows : Pass (frame_rows d) = grind (arith, nat_tests) in
     pass_answers (frame_rows d) (Ok (head_of d)) rows
 
 module _ (p : Packing) (d : List ℕ) where
@@ -50,7 +50,7 @@ module _ (p : Packing) (d : List ℕ) where
       let f4 = flags.coded in
       let few = few-coders p.sealed in
       let rows : Pass (head_rows p.channel d (packed_head p)) =
-      (grind (arith, nat_tests), (grind (arith, nat_tests), (grind (arith, nat_tests), (grind (arith, nat_tests), (grind (arith, nat_tests), (grind (arith, nat_tests), (grind (arith, nat_tests), (grind (arith, nat_tests), tt)))))))) in
+      grind (arith, nat_tests) in
       pass_answers (head_rows p.channel d (packed_head p)) (Ok (packed_head p)) rows
 
   pub is_data : 1 ≤ p.channel → 1 ≤ p.count → p.count ≤ 819 → is_control (packed_head p) ≡ false
@@ -63,7 +63,7 @@ module _ (p : Packing) (d : List ℕ) where
       let f2 = flags.numbered in
       let f3 = flags.lengths in
       let rows : Pass (data_rows d (packed_head p)) =
-      (grind (arith, nat_tests), (grind (arith, nat_tests), (grind (arith, nat_tests), (grind (arith, nat_tests), tt)))) in
+      grind (arith, nat_tests) in
       let low : leb p.first max_number ≡ true = grind (arith, nat_tests) in
       let range : (leb 1 p.first && leb (p.first + p.count - 1) max_number) ≡ true = grind (arith, nat_tests) in
       let number : first_in_range (numbered (pos p.first)) p.count ≡ Some p.first =
@@ -85,7 +85,7 @@ module _ (p : Packing) (d : List ℕ) where
       → total ≤ 16 → 4 * header_words p + 4 < length d → fragment_of d (packed_head p) ≡ Ok (Some (record { total = total; number = p.«fragment» }))
   unfolding fragment_of
   piece-passes b total e f h i j k =
-      let rows : Pass (fragment_rows d (packed_head p) (fragment_numbers d)) = (grind (arith, nat_tests), (grind (arith, nat_tests), (grind (arith, nat_tests), tt))) in
+      let rows : Pass (fragment_rows d (packed_head p) (fragment_numbers d)) = grind (arith, nat_tests) in
       cond-true (is_fragmented (flag_for p)) (first_of (fragment_rows d (packed_head p) (fragment_numbers d)) (Ok (Some (fragment_numbers d)))) (Ok None) (flags.cut ∙ b)
       ∙ pass_answers (fragment_rows d (packed_head p) (fragment_numbers d)) (Ok (Some (fragment_numbers d))) rows
       ∙ same_numbers (be 2 d 20) (be 2 d 22) total p.«fragment» e f

@@ -22,15 +22,15 @@ use Rattle.sending.proofs.Rows.{Pass, answered_passed, same-passed, most_passed}
 -- a layer that was passed
 then_answers : {X Y E : Type 0} (r : Result X E) (next : X → Result Y E) (y : Y) → and_then r next ≡ Ok y → (x : X) × (r ≡ Ok x) × (next x ≡ Ok y)
 then_answers (Ok x) next y e = (x, refl, e)
-then_answers (Err f) next y e = absurd (let z : ◌≡◌ {A = ℕ} 0 1 = cc in omega arith)
+then_answers (Err f) next y e = absurd (cc)
 
 ok_or-answers : {X : Type 0} (o : Option X) (r : Refusal) (x : X) → ok_or o r ≡ Ok x → o ≡ Some x
 ok_or-answers (Some y) r x e = cc
-ok_or-answers None r x e = absurd (let z : ◌≡◌ {A = ℕ} 0 1 = cc in omega arith)
+ok_or-answers None r x e = absurd (cc)
 
 pub asked_answers : {X : Type 0} (b : Bool) (y x : X) → cond b (Some y) None ≡ Some x → (b ≡ true) × (y ≡ x)
 asked_answers true y x e = (refl, cc)
-asked_answers false y x e = absurd (let z : ◌≡◌ {A = ℕ} 0 1 = cc in omega arith)
+asked_answers false y x e = absurd (cc)
 
 pub frame_answers : (d : List ℕ) (h : Head) → frame_of d ≡ Ok h → Pass (frame_rows d) × (head_of d ≡ h)
 unfolding frame_of
@@ -47,13 +47,13 @@ head-answers channel d h g e =
 -- a heartbeat or an end is no data
 kinds : (b c e : Bool) (s last : ℕ) (a : Packet)
     → cond b (cond c (Some (Heartbeat s)) None) (Some (cond e (StreamHeartbeat s last) (StreamEnd s last))) ≡ Some (Data a) → ⊥
-kinds true true e s last a h = let z : ◌≡◌ {A = ℕ} 0 1 = cc in omega arith
-kinds true false e s last a h = let z : ◌≡◌ {A = ℕ} 0 1 = cc in omega arith
-kinds false c true s last a h = let z : ◌≡◌ {A = ℕ} 0 1 = cc in omega arith
-kinds false c false s last a h = let z : ◌≡◌ {A = ℕ} 0 1 = cc in omega arith
+kinds true true e s last a h = cc
+kinds true false e s last a h = cc
+kinds false c true s last a h = cc
+kinds false c false s last a h = cc
 
 kind_control : (h : Head) (o : Option ℕ) (a : Packet) → control_kind h o ≡ Some (Data a) → ⊥
-kind_control h None a e = let z : ◌≡◌ {A = ℕ} 0 1 = cc in omega arith
+kind_control h None a e = cc
 kind_control h (Some last) a e = kinds (eqb h.channel 0) (eqb last 0 && eqb h.count 0) (eqb h.count 0) h.sender last a e
 
 control_answers : (d : List ℕ) (h : Head) (a : Packet) → control_of d h ≡ Ok (Data a) → ⊥
@@ -68,14 +68,14 @@ kind_answers d h a false e = (refl, e)
 
 numbered_is : (q : ℤ) (n : ℕ) → numbered q ≡ Some n → q ≡ pos n
 numbered_is (pos m) n e = ap pos (asked_answers (leb m max_number) m n e).1
-numbered_is (negsuc m) n e = absurd (let z : ◌≡◌ {A = ℕ} 0 1 = cc in omega arith)
+numbered_is (negsuc m) n e = absurd (cc)
 
 signed_is : (b : Bool) (v w n : ℕ) → cond b (pos v) (negsuc w) ≡ pos n → v ≡ n
 signed_is true v w n e = cc
-signed_is false v w n e = absurd (let z : ◌≡◌ {A = ℕ} 0 1 = cc in omega arith)
+signed_is false v w n e = absurd (cc)
 
 range_answers : (o : Option ℕ) (count first : ℕ) → first_in_range o count ≡ Some first → (o ≡ Some first) × (1 ≤ first) × (first + count - 1 ≤ max_number)
-range_answers None count first e = absurd (let z : ◌≡◌ {A = ℕ} 0 1 = cc in omega arith)
+range_answers None count first e = absurd (cc)
 range_answers (Some n) count first e =
     let a = asked_answers (leb 1 n && leb (n + count - 1) max_number) n first e in
     let b = and_parts (leb 1 n) (leb (n + count - 1) max_number) a.0 in
@@ -97,7 +97,7 @@ whole_of : (b : Bool) (d : List ℕ) (h : Head)
     → cond b (first_of (fragment_rows d h (fragment_numbers d)) (Ok (Some (fragment_numbers d)))) (Ok None) ≡ Ok None → b ≡ false
 whole_of true d h e =
     let a = answered_passed {X = Option Fragment} (fragment_rows d h (fragment_numbers d)) (Ok (Some (fragment_numbers d))) None e in
-    absurd (let f = a.1 in let z : ◌≡◌ {A = ℕ} 0 1 = cc in omega arith)
+    absurd (let f = a.1 in cc)
 whole_of false d h e = refl
 
 pub whole-answers : (d : List ℕ) (h : Head) → fragment_of d h ≡ Ok None → is_fragmented h.flag.0 ≡ false
@@ -130,7 +130,7 @@ pub record WholeRead (channel : ℕ) (d : List ℕ) (a : Packet) : Type 0 where
 
 own-channel : (c channel count : ℕ) → (eqb c 0 || (eqb count 0 || eqb count 0xFFFF)) ≡ false → (not (eqb c 0) && not (eqb c channel)) ≡ false
     → (c ≡ channel) × (1 ≤ channel) × (1 ≤ count)
-own-channel c channel count e f = (grind (arith, nat_tests), grind (arith, nat_tests), grind (arith, nat_tests))
+own-channel c channel count e f = grind (arith, nat_tests)
 
 rows-read : (channel : ℕ) (d : List ℕ) (a : Packet) (first : ℕ) → Pass (frame_rows d) → Pass (head_rows channel d (head_of d)) → is_control (head_of d) ≡ false
     → first_number_of d (head_of d) ≡ Ok first → fragment_of d (head_of d) ≡ Ok None → packet_of d (head_of d) first None ≡ a → WholeRead channel d a

@@ -32,8 +32,8 @@ sum-checked true v place plain e t = eqb-true (adler_of plain) v (tested (eqb (a
   where
     tested : (c : Bool) → cond {A = Result (Unit {0}) Refusal} c (Ok tt) (Err (record { cause = BodyChecksum; value = place })) ≡ Ok tt → c ≡ true
     tested true h = refl
-    tested false h = absurd (let z : ◌≡◌ {A = ℕ} 0 1 = cc in omega arith)
-sum-checked false v place plain e t = absurd (let z : ◌≡◌ {A = ℕ} 0 1 = cc in omega arith)
+    tested false h = absurd (cc)
+sum-checked false v place plain e t = absurd (cc)
 
 -- a body that was opened is sealed again, and is as long as it was
 sealed_again : (ready : ℕ → Bool) (opens seals : ℕ → List ℕ → List ℕ) (n : ℕ) (coded : List ℕ) → Inverse ready opens seals → Bytes coded

@@ -16,7 +16,7 @@ pass_answers (row ∷ rows) answer t = cond-false row.0 (Err row.1) (first_of ro
 
 cond-passed : {X : Type 0} (b : Bool) (e : Refusal) (answer : Result X Refusal) (x : X) → cond b (Err e) answer ≡ Ok x
     → (b ≡ false) × (answer ≡ Ok x)
-cond-passed true e answer x h = absurd (let z : ◌≡◌ {A = ℕ} 0 1 = cc in omega arith)
+cond-passed true e answer x h = absurd (cc)
 cond-passed false e answer x h = (refl, h)
 
 -- where something is answered, no row refused

@@ -24,10 +24,10 @@ pub record Sound (p : Packing) (plain : List ℕ) : Type 0 where
 
 second_fails : (x y : Bool) → (x && y) ≡ false → x ≡ true → y ≡ false
 second_fails true y h e = h
-second_fails false y h e = absurd (let z : ◌≡◌ {A = ℕ} 0 1 = cc in omega arith)
+second_fails false y h e = absurd (cc)
 
 numbers : (k total : ℕ) → ltb max_fragments total ≡ false → (eqb k 0 || ltb total k) ≡ false → (1 ≤ k) × (k ≤ total) × (total ≤ 16)
-numbers k total e f = (grind (arith, nat_tests), grind (arith, nat_tests), grind (arith, nat_tests))
+numbers k total e f = grind (arith, nat_tests)
 
 pub rows-sound : (p : Packing) (plain : List ℕ) → Pass (argument_rows p plain) → Pass (piece_rows p plain) → Sound p plain
 rows-sound p plain a b =
