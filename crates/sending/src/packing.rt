@@ -64,9 +64,8 @@ impl Packing {
         if !self.is_cut() {
             return body;
         }
-        let before = self
-            .piece_size
-            .saturating_mul(usize::from(self.fragment.saturating_sub(1)));
+        let earlier = usize::from(self.fragment.saturating_sub(1));
+        let before = self.piece_size.saturating_mul(earlier);
         let rest = body.get(before..).unwrap_or(&[]);
         &rest[..self.piece_size.min(rest.len())]
     }
