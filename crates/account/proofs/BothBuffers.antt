@@ -1,10 +1,11 @@
 -- Both working buffers.
-use Rattle.std.proofs.Common.{◌≡◌, ℕ, true, eqb, List, length}
-use Rattle.std.proofs.lemmas.Bool.{eqb-true, and_parts}
+use Rattle.std.proofs.Common.{◌≡◌, ◌≢◌, ℕ, true, false, List, length}
+use Rattle.std.proofs.lemmas.Bool.{eq-eqb, ne_eqb, and_from, and_right}
 use Rattle.base.specs.Limits.{body_room}
 use Rattle.account.specs.Releasing.{buffers_fit}
 
-pub both_whole : (joining plain : List ℕ) → buffers_fit joining plain ≡ true → (length joining ≡ body_room) × (length plain ≡ body_room)
-both_whole joining plain fit =
-    let both = and_parts (eqb (length joining) body_room) (eqb (length plain) body_room) fit in
-    (eqb-true _ _ both.0, eqb-true _ _ both.1)
+pub both_fit : (joining plain : List ℕ) → length joining ≡ body_room → length plain ≡ body_room → buffers_fit joining plain ≡ true
+both_fit joining plain j p = and_from _ _ (eq-eqb _ _ j) (eq-eqb _ _ p)
+
+pub second_unfit : (joining plain : List ℕ) → length plain ≢ body_room → buffers_fit joining plain ≡ false
+second_unfit joining plain n = and_right _ _ (ne_eqb _ _ n)

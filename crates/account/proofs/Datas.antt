@@ -1,5 +1,5 @@
 -- What data comes to, by what joining it came to.
-use Rattle.std.proofs.Common.{◌≡◌, ℕ, ◌-◌, ◌<◌, ◌≤◌, Bool, true, false, cond, List, length, take, drop, is_ok, Some, None, Ok, Err, Option, sym, refl, ap, ◌∙◌, arith}
+use Rattle.std.proofs.Common.{◌≡◌, ℕ, ◌-◌, ◌<◌, ◌≤◌, Bool, true, false, cond, List, length, take, drop, Some, None, Ok, Err, Option, Result, IsErrAnd, sym, refl, ap, ◌∙◌, arith}
 use Rattle.std.proofs.lemmas.List.{length-take, length-drop}
 use Rattle.std.proofs.lemmas.Bool.{lt-ltb, le-ltb, cond-true, cond-false}
 use Rattle.base.specs.Limits.{body_room}
@@ -9,9 +9,9 @@ use Rattle.partials.specs.declared.head.Joined.TheVariants.{Again, Kept, Whole}
 use Rattle.wire.specs.Bodies.{coded_in, coded_of}
 use Rattle.wire.specs.declared.datagram.Fragment.{Fragment}
 use Rattle.wire.specs.declared.datagram.Packet.{Packet}
-use Rattle.account.specs.Arriving.{Coder, with_partials, comes_to, ended_by, ends_if_ok, joined_then, data_of}
+use Rattle.account.specs.Arriving.{Coder, comes_to, joined_then, data_of}
 use Rattle.account.specs.Joined.{CodedIn}
-use Rattle.account.specs.States.{State, Done, done}
+use Rattle.account.specs.States.{State, done}
 use Rattle.account.specs.declared.answer.Answer.TheVariants as answers
 
 -- the outcome, from the answer
@@ -48,15 +48,6 @@ module _ (c : Coder) (s : State) (p : Packet) (d : List ℕ) where
   unfolding data_of
   data_by fresh o is = ap (joined_then c s p) (sym is) ∙ sym (cond-false _ _ _ (le-ltb p.first s.numbers.next fresh))
 
--- a packet that was taken ends its partial
-pub ends_by_lem : (d e : Done) (p : Packet) → d ≡ e
-    → done d.answer (with_partials d.state (cond (is_ok d.answer) (ended_by p.fragment p d.state.partials) d.state.partials)) ≡ ends_if_ok e p
-ends_by_lem d e p same = both (is_ok d.answer) ∙ ap (λ x. ends_if_ok x p) same where
-  both : (b : Bool) → done d.answer (with_partials d.state (cond b (ended_by p.fragment p d.state.partials) d.state.partials))
-      ≡ done d.answer (cond b (with_partials d.state (ended_by p.fragment p d.state.partials)) d.state)
-  both true = refl
-  both false = refl
-
 -- the coded body of a whole packet, where it stands, and that it fits a buffer
 pub coded-is : (o : Outcome) (size : ℕ) (p : Packet) (d joining : List ℕ) → Ok (Whole size) ≡ answer_of o → CodedIn o p d joining → coded_of p d size joining ≡ Some (bytes_of o)
 coded-is (refused f) size p d joining is coded = absurd (let z : ◌≡◌ {A = ℕ} 0 1 = cc in omega arith)
@@ -76,3 +67,7 @@ coded-short (Some f) start end size d joining b is short whole-buffer = omega (a
 
 pub some_is : {X : Type 0} {x y : X} → Some x ≡ Some y → x ≡ y
 some_is e = cc
+
+pub err_is : {X E : Type 0} (r : Result X E) (e : E) → IsErrAnd r (λ f. f ≡ e) → r ≡ Err e
+err_is (Ok x) e h = absurd h
+err_is (Err f) e h = ap Err h

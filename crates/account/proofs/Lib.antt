@@ -2,5 +2,3 @@ pub mod BothBuffers
 pub mod Codings
 pub mod Datas
 pub mod Deliveries
-pub mod Joins
-pub mod Releases

@@ -26,6 +26,9 @@ pub record Coder : Type 0 where
   pub ready : ℕ → Bool
   pub opens : ℕ → List ℕ → List ℕ
 
+abbrev pub coder_of : (ℕ → Bool) → (ℕ → List ℕ → List ℕ) → Coder
+coder_of ready opens = record { ready = ready; opens = opens }
+
 -- The parts of a state that an arrival changes one at a time.
 abbrev pub with_numbers : State → Numbers → State
 with_numbers s a = state_of a s.shelf s.partials s.gaps s.outlet

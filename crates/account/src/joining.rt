@@ -1,13 +1,13 @@
 // Joining fragments.
-ghost use Rattle.std.specs.Prelude.{◌≡◌, true, cond, length, is_some, Some};
+ghost use Rattle.std.specs.Prelude.{◌≡◌, true, is_some, Some};
 ghost use Rattle.wire.specs.Bodies.{coded_of};
-ghost use Rattle.base.specs.Limits.{body_room};
 ghost use Rattle.partials.specs.Meaning.{partials_of};
-ghost use Rattle.wire.specs.Bounds.{PacketBounds};
 ghost use Rattle.account.specs.Arriving.{head_for, comes_to, ended_by};
 ghost use Rattle.account.specs.Joined.{JoinedTo};
 
+use crate::arrival::Arrival;
 use base::Refusal;
+use base::limits::BODY_ROOM;
 use partials::{Joined, PartialHead, Partials};
 use wire::{Fragment, Packet, coded_body};
 
@@ -26,47 +26,35 @@ fn head_for(packet: Packet, fragment: Fragment) -> PartialHead
 
 // The coded body of a packet that was not cut is whole. A fragment is joined to those that came before.
 pub(crate) fn join(
-    packet: Packet,
-    datagram: &[u8],
+    arrival: Arrival<'_>,
     partials: &mut Partials<'_>,
-    joining: &mut [u8],
+    joining: &mut [u8; BODY_ROOM],
 ) -> Result<Joined, Refusal>
-    requires bounds { PacketBounds packet datagram.now }
-    requires buffer { length joining.old ≡ body_room }
-    ensures { JoinedTo (comes_to (partials_of partials.old) packet datagram.now) packet datagram.now (partials_of partials.old) result (partials_of partials.new) joining.new }
+    ensures { JoinedTo (comes_to (partials_of partials.old) arrival.entry.packet arrival.entry.datagram.now) arrival.entry.packet arrival.entry.datagram.now (partials_of partials.old) result (partials_of partials.new) joining.new }
 {
-    let start = packet.start;
-    let end = packet.end;
+    let packet = arrival.packet;
+    let piece = &arrival.datagram[packet.start..packet.end];
     match packet.fragment {
-        None => Ok(Joined::Whole(end - start)),
+        None => Ok(Joined::Whole(piece.len())),
         Some(fragment) => {
-            let head = head_for(packet, fragment);
-            partials.join(head, fragment.number, &datagram[start..end], joining)
+            partials.join(head_for(packet, fragment), fragment.number, piece, joining)
         }
     }
 }
 
 // The coded body of a whole packet.
-pub(crate) fn whole_body<'a>(
-    packet: Packet,
-    datagram: &'a [u8],
-    size: usize,
-    joining: &'a [u8],
-) -> &'a [u8]
-    requires { is_some (coded_of packet datagram.now size joining.now) ≡ true }
-    ensures { Some result.now ≡ coded_of packet datagram.now size joining.now }
+pub(crate) fn whole_body<'a>(arrival: Arrival<'a>, size: usize, joining: &'a [u8]) -> &'a [u8]
+    requires { is_some (coded_of arrival.packet arrival.datagram.now size joining.now) ≡ true }
+    ensures { Some result.now ≡ coded_of arrival.entry.packet arrival.entry.datagram.now size joining.now }
 {
-    match coded_body(packet, datagram, size, joining) {
-        Some(coded) => coded,
-        None => unreachable(),
-    }
+    coded_body(arrival.packet, arrival.datagram, size, joining).unwrap()
 }
 
 // Ends the partial of a packet that was taken, if it was joined.
-pub(crate) fn end_joined(packet: Packet, is_taken: bool, partials: &mut Partials<'_>)
-    ensures { partials_of partials.new ≡ cond is_taken (ended_by packet.fragment packet (partials_of partials.old)) (partials_of partials.old) }
+pub(crate) fn end_joined(packet: Packet, partials: &mut Partials<'_>)
+    ensures { partials_of partials.new ≡ ended_by packet.fragment packet (partials_of partials.old) }
 {
-    if is_taken && packet.fragment.is_some() {
+    if packet.fragment.is_some() {
         partials.end(packet.sender, packet.first);
     }
 }

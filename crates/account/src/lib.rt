@@ -3,7 +3,7 @@
 
 pub mod account;
 pub mod answer;
-mod buffers;
+mod arrival;
 mod coding;
 mod delivering;
 pub mod gaps;

@@ -1,13 +1,7 @@
 // Refusals.
 ghost use Rattle.std.specs.Prelude.{◌≡◌, false, is_ok, Err};
 
-use base::{Cause, Refusal};
-
-pub(crate) fn refusal(cause: Cause, value: u64) -> Refusal
-    ensures { result ≡ record { cause = cause; value = value } }
-{
-    Refusal { cause, value }
-}
+use base::Refusal;
 
 // The refusal in an answer that has one.
 pub(crate) fn refusal_of<T: Drop>(answer: Result<T, Refusal>) -> Refusal

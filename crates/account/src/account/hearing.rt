@@ -4,32 +4,13 @@ ghost use Rattle.base.specs.Limits.{max_number};
 ghost use Rattle.parts.specs.Holdings.{Holding};
 ghost use Rattle.parts.specs.Listings.{Listing};
 ghost use Rattle.partials.specs.Joining.{Partial};
-ghost use Rattle.account.specs.Arriving.{is_past, is_other, heard_to, beat_of, end_of};
+ghost use Rattle.account.specs.Arriving.{heard_to, beat_of, end_of};
 ghost use Rattle.account.specs.Gaps.{Gaps};
 ghost use Rattle.account.specs.States.{numbers_of, state_of, done};
 
 use super::Account;
 use crate::answer::Answer;
-use crate::refusing::refusal;
 use base::{Cause, Refusal};
-
-pub(super) fn is_past(end: Option<u64>, number: u64) -> bool
-    ensures { result ≡ is_past «end» number }
-{
-    match end {
-        Some(end) => end < number,
-        None => false,
-    }
-}
-
-fn is_other(end: Option<u64>, number: u64) -> bool
-    ensures { result ≡ is_other «end» number }
-{
-    match end {
-        Some(end) => end != number,
-        None => false,
-    }
-}
 
 impl Account {
     // Has heard of a number.
@@ -41,24 +22,30 @@ impl Account {
     }
 
     // A heartbeat of the channel, with the last number that was sent.
+    #[tactic(auto, unfolding(crate::specs::Arriving::beat_of))]
     pub(super) fn beat(&mut self, last: u64) -> Result<Answer, Refusal>
         requires { last ≤ max_number }
-        ensures { (h : Holding) (ps : List Partial) (g : Gaps) (l : Listing) → done result (state_of (numbers_of self.new) h ps g l) ≡ beat_of (state_of (numbers_of self.old) h ps g l) last }
+        ensures { (h : Holding) (ps : List Partial) (g : Gaps) (l : Listing) →
+            done result (state_of (numbers_of self.new) h ps g l)
+            ≡ beat_of (state_of (numbers_of self.old) h ps g l) last }
     {
-        if is_past(self.numbers.end, last) {
-            return Err(refusal(Cause::PastEnd, last));
+        if self.numbers.end.is_some_and(|end| end < last) {
+            return Err(Refusal::new(Cause::PastEnd, last));
         }
         self.hear(last);
         Ok(Answer::Heartbeat)
     }
 
     // The end of the stream, with its last number.
+    #[tactic(auto, unfolding(crate::specs::Arriving::end_of))]
     pub(super) fn end_at(&mut self, last: u64) -> Result<Answer, Refusal>
         requires { last ≤ max_number }
-        ensures { (h : Holding) (ps : List Partial) (g : Gaps) (l : Listing) → done result (state_of (numbers_of self.new) h ps g l) ≡ end_of (state_of (numbers_of self.old) h ps g l) last }
+        ensures { (h : Holding) (ps : List Partial) (g : Gaps) (l : Listing) →
+            done result (state_of (numbers_of self.new) h ps g l)
+            ≡ end_of (state_of (numbers_of self.old) h ps g l) last }
     {
-        if last < self.numbers.heard || is_other(self.numbers.end, last) {
-            return Err(refusal(Cause::PastEnd, last));
+        if last < self.numbers.heard || self.numbers.end.is_some_and(|end| end != last) {
+            return Err(Refusal::new(Cause::PastEnd, last));
         }
         self.numbers.heard = last;
         self.numbers.end = Some(last);

@@ -3,34 +3,25 @@ ghost use Rattle.std.specs.Prelude.{◌≡◌, ◌≤◌, List};
 ghost use Rattle.base.specs.Limits.{max_number};
 ghost use Rattle.partials.specs.Joining.{Partial};
 ghost use Rattle.account.specs.Gaps.{gaps_of};
-ghost use Rattle.account.specs.Judging.{is_below, out_of_reach, judge_of};
+ghost use Rattle.account.specs.Judging.{out_of_reach, judge_of};
 ghost use Rattle.account.specs.States.{numbers_of, state_of, done};
 
 use super::{Account, Numbers};
 use crate::answer::Answer;
 use crate::gaps::GapList;
-use crate::refusing::refusal;
 use base::{Cause, Refusal};
 use parts::{Entry, Outlet, Shelf};
-
-fn is_below(lowest: Option<u64>, k: u64) -> bool
-    ensures { result ≡ is_below lowest k }
-{
-    match lowest {
-        Some(lowest) => lowest < k,
-        None => false,
-    }
-}
 
 fn is_out_of_reach(numbers: Numbers, lowest: Option<u64>, k: u64) -> bool
     requires { numbers.heard ≤ max_number }
     ensures { result ≡ out_of_reach numbers lowest k }
 {
-    k <= numbers.next || k > numbers.heard + 1 || is_below(lowest, k)
+    k <= numbers.next || k > numbers.heard + 1 || lowest.is_some_and(|lowest| lowest < k)
 }
 
 impl Account {
     /// Gives up the numbers from the next expected to below `k`: reports them missing, and goes on at `k`.
+    #[tactic(auto, unfolding(crate::specs::Judging::judge_of))]
     pub fn judge<S: Shelf, O: Outlet>(
         &mut self,
         k: u64,
@@ -38,21 +29,21 @@ impl Account {
         gaps: &mut GapList<'_>,
         outlet: &mut O,
     ) -> Result<Answer, Refusal>
-        ensures { (partials : List Partial) → done result (state_of (numbers_of self.new) (S.Shelf.holding shelf.now) partials (gaps_of gaps.new) (O.Outlet.listing outlet.new)) ≡ judge_of (state_of (numbers_of self.old) (S.Shelf.holding shelf.now) partials (gaps_of gaps.old) (O.Outlet.listing outlet.old)) k }
+        ensures { (ps : List Partial) →
+            done result (state_of (numbers_of self.new) (S.holding shelf.now) ps (gaps_of gaps.new) (O.listing outlet.new))
+            ≡ judge_of (state_of (numbers_of self.old) (S.holding shelf.now) ps (gaps_of gaps.old) (O.listing outlet.old)) k }
     {
         let next = self.numbers.next;
         if is_out_of_reach(self.numbers, shelf.lowest(), k) {
-            return Err(refusal(Cause::JudgeNumber, next));
+            return Err(Refusal::new(Cause::JudgeNumber, next));
         }
         if gaps.is_full() {
-            return Err(refusal(Cause::GapRowsFull, next));
+            return Err(Refusal::new(Cause::GapRowsFull, next));
         }
-        let Ok(()) = outlet.put(Entry::missing(next, k - 1)) else {
-            return Err(refusal(Cause::OutletFull, next));
-        };
-        let Ok(()) = gaps.add(next, k - 1) else {
-            unreachable()
-        };
+        outlet
+            .put(Entry::missing(next, k - 1))
+            .map_err(|_| Refusal::new(Cause::OutletFull, next))?;
+        gaps.add(next, k - 1).unwrap();
         self.numbers.next = k;
         Ok(Answer::Done)
     }

@@ -7,7 +7,6 @@ ghost use Rattle.account.specs.States.{numbers_of};
 
 use super::{Account, Numbers};
 use crate::gaps::GapList;
-use crate::refusing::refusal;
 use base::limits::MAX_NUMBER;
 use base::{Cause, Refusal};
 use partials::Partials;
@@ -19,7 +18,7 @@ fn all_empty<S: Shelf, O: Outlet>(
     gaps: &GapList<'_>,
     outlet: &O,
 ) -> bool
-    ensures { result ≡ all_empty (S.Shelf.holding shelf.now) (partials_of partials.now) (gaps_of gaps.now) (O.Outlet.listing outlet.now) }
+    ensures { result ≡ all_empty (S.holding shelf.now) (partials_of partials.now) (gaps_of gaps.now) (O.listing outlet.now) }
 {
     shelf.is_empty() && partials.is_empty() && gaps.is_empty() && outlet.is_empty()
 }
@@ -34,14 +33,14 @@ impl Account {
         gaps: &GapList<'_>,
         outlet: &O,
     ) -> Result<Account, Refusal>
-        ensures { opened_in result ≡ open_of channel start (S.Shelf.holding shelf.now) (partials_of partials.now) (gaps_of gaps.now) (O.Outlet.listing outlet.now) }
+        ensures { opened_in result ≡ open_of channel start (S.holding shelf.now) (partials_of partials.now) (gaps_of gaps.now) (O.listing outlet.now) }
     {
         if channel == 0
             || start == 0
             || start > MAX_NUMBER
             || !all_empty(shelf, partials, gaps, outlet)
         {
-            return Err(refusal(Cause::Opening, 0));
+            return Err(Refusal::new(Cause::Opening, 0));
         }
         let numbers = Numbers {
             channel,

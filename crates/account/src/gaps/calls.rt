@@ -13,10 +13,7 @@ pub fn gaps_fit(rows: usize) -> Result<(), Refusal>
     ensures { result ≡ gaps_fit rows }
 {
     if rows < 1 || rows > MAX_GAPS {
-        return Err(Refusal {
-            cause: Cause::PartSize,
-            value: 0,
-        });
+        return Err(Refusal::new(Cause::PartSize, 0));
     }
     Ok(())
 }

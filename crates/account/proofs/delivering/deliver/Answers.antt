@@ -1,54 +1,59 @@
-use Rattle.std.proofs.Common.{◌≡◌, ◌+◌, sym, refl, ap, ◌∙◌, arith}
+use Rattle.std.proofs.Common.{◌≡◌, ◌+◌, take, is_ok, Err, false, true, sym, ap, ◌∙◌, arith}
+use Rattle.std.proofs.lemmas.Bool.{cond-true, cond-false, le-leb, lt-leb, and_from, and_left, and_right}
+use Rattle.parts.specs.Entries.{delivered}
+use Rattle.parts.specs.Given.{entry_of}
+use Rattle.parts.specs.Listings.{fits, with_entry}
 use Rattle.wire.specs.Messages.{messages_in}
 use Rattle.wire.proofs.Cuts.{lengths-all}
-use Rattle.account.specs.Delivering.{entries_from, all_fit, with_all}
-use Rattle.account.proofs.Deliveries.{turn_at, left_is, all_put, fit_all, too_many_lem, too_long, as_many}
+use Rattle.account.specs.Delivering.{entries_from, all_fit}
+use Rattle.account.proofs.Deliveries.{turn_at, left_is, all_left, all_put, fit_by}
 use Rattle.account.proofs.delivering.deliver.Goals as goal
-use Rattle.account.proofs.delivering.deliver.Goals.{then-entries_left-messages-via-then-entries_left-messages, then-entries_left-messages-via-else-entries_left-messages+then-bytes_left-size}
+use Rattle.account.proofs.delivering.deliver.Goals.{then-entries_left-messages-via-then-entries_left-messages, then-entries_left-messages-via-else-entries_left-messages+then-bytes_left-messages}
 
 pub returns-then-entries_left-messages : goal.returns-then-entries_left-messages
 returns-then-entries_left-messages g c =
     let l = g.O.Outlet.listing c.args.outlet.now in
-    let ms = messages_in c.args.messages in
-    record {
-      answer = elim c.then-entries_left-messages.branch [
-        | then-entries_left-messages-via-then-entries_left-messages w ↦
-            sym (too_many_lem l c.args.first ms (omega (arith, as_many c.args.messages, w.if-entries_left-messages.true, c.entries_left.ensures)))
-        | then-entries_left-messages-via-else-entries_left-messages+then-bytes_left-size w ↦
-            sym (too_long l c.args.first ms (omega (arith, c.requires.size, w.if-bytes_left-size.true, w.bytes_left.ensures)))
-      ];
-      after = refl;
-    }
+    let unfit = elim c.then-entries_left-messages.branch as (λ _. all_fit l (entries_from c.args.first (messages_in c.args.messages)) ≡ false) [
+      | then-entries_left-messages-via-then-entries_left-messages w ↦
+          fit_by l c.args.first c.args.messages ∙ and_left _ _ (lt-leb _ l.entries_left (omega (arith, w.if-entries_left-messages.true, c.entries_left.ensures)))
+      | then-entries_left-messages-via-else-entries_left-messages+then-bytes_left-messages w ↦
+          fit_by l c.args.first c.args.messages ∙ and_right _ _ (lt-leb _ l.bytes_left (omega (arith, w.if-bytes_left-messages.true, w.bytes_left.ensures)))
+    ] in
+    record { answer = ap Err c.new.ensures ∙ sym (cond-false _ _ _ unfit); after = sym (cond-false _ _ _ unfit) }
 
 pub messages-init : goal.messages-init
-messages-init g c =
-    let l = g.O.Outlet.listing c.args.outlet.now in
-    let ms = messages_in c.args.messages in
-    let first : c.args.first + 0 ≡ c.args.first = omega arith in
-    record {
-      within = omega arith;
-      exact = c.requires.lengths;
-      fit = ap (λ n. all_fit l (entries_from n ms)) first
-          ∙ fit_all l c.args.first ms (omega (arith, as_many c.args.messages, c.entries_left.ensures)) (omega (arith, c.requires.size, c.bytes_left.ensures));
-      rest = ap (λ n. with_all l (entries_from n ms)) first;
-    }
+messages-init g c = all_left _ c.args.first c.args.messages (omega (arith, c.entries_left.ensures)) (omega (arith, c.bytes_left.ensures))
 
-pub deliver_one-at-requires : goal.deliver_one-at-requires
-deliver_one-at-requires g c =
-    let t = turn_at _ _ (c.args.first + c.messages.i) c.messages.at c.messages.i c.args.messages.lengths.now c.args.messages.bytes.now c.messages-test.true c.messages.invariant in
-    record { inside = t.ends; room = t.fits_one }
+pub split_at-requires : goal.split_at-requires
+split_at-requires g c =
+    (turn_at _ _ (c.args.first + c.messages.i) c.messages.i c.from_be_bytes.result c.args.messages.lengths.now c.messages.rest.now c.messages-test.true (omega arith)
+    c.messages.invariant).ends
+
+pub unwrap-requires : goal.unwrap-requires
+unwrap-requires g c =
+    let l = g.O.Outlet.listing c.messages.outlet in
+    let n = c.from_be_bytes.result in
+    let t = turn_at _ l (c.args.first + c.messages.i) c.messages.i n c.args.messages.lengths.now c.messages.rest.now c.messages-test.true (omega arith) c.messages.invariant in
+    let entry : entry_of c.delivered.result ≡ delivered (c.args.first + c.messages.i) (take n c.messages.rest.now) =
+    c.delivered.ensures ∙ ap (delivered (c.args.first + c.messages.i)) c.split_at.ensures.front in
+    ap is_ok (c.put.ensures.answer ∙ cond-true _ _ _ (ap (fits l) entry ∙ t.fits_one))
 
 pub messages-preserved : goal.messages-preserved
 messages-preserved g c =
-    let t = turn_at _ _ (c.args.first + c.messages.i) c.messages.at c.messages.i c.args.messages.lengths.now c.args.messages.bytes.now c.messages-test.true c.messages.invariant in
-    left_is _ _ _ (c.args.first + c.messages.i + 1) _ _ _ _ _ c.deliver_one-at.ensures.after (omega arith) c.deliver_one-at.ensures.«end» t.left
+    let l = g.O.Outlet.listing c.messages.outlet in
+    let n = c.from_be_bytes.result in
+    let t = turn_at _ l (c.args.first + c.messages.i) c.messages.i n c.args.messages.lengths.now c.messages.rest.now c.messages-test.true (omega arith) c.messages.invariant in
+    let entry : entry_of c.delivered.result ≡ delivered (c.args.first + c.messages.i) (take n c.messages.rest.now) =
+    c.delivered.ensures ∙ ap (delivered (c.args.first + c.messages.i)) c.split_at.ensures.front in
+    left_is _ _ _ _ _ _ _ _ (c.put.ensures.after ∙ cond-true _ _ _ (ap (fits l) entry ∙ t.fits_one) ∙ ap (with_entry l) entry) (omega arith) c.split_at.ensures.back t.left
 
 pub returns : goal.returns
 returns g c =
     let l = g.O.Outlet.listing c.args.outlet.now in
-    let ms = messages_in c.args.messages in
+    let fit : all_fit l (entries_from c.args.first (messages_in c.args.messages)) ≡ true =
+    fit_by l c.args.first c.args.messages ∙ and_from _ _ (le-leb _ l.entries_left (omega (arith, c.entries_left.ensures))) (le-leb _ l.bytes_left (omega (arith, c.bytes_left.ensures))) in
     record {
-      answer = sym (fit_all l c.args.first ms (omega (arith, as_many c.args.messages, c.entries_left.ensures)) (omega (arith, c.requires.size, c.bytes_left.ensures)));
-      after = all_put _ _ (c.args.first + c.messages.i) c.messages.at _ c.args.messages.bytes.now
-          (lengths-all (λ ns. ns) c.args.messages.lengths.now c.messages.i c.messages-test.false) c.messages.invariant;
+      answer = sym (cond-true _ _ _ fit);
+      after = all_put _ _ (c.args.first + c.messages.i) _ c.messages.rest.now
+          (lengths-all (λ ns. ns) c.args.messages.lengths.now c.messages.i c.messages-test.false) c.messages.invariant ∙ sym (cond-true _ _ _ fit);
     }

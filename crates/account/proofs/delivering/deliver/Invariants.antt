@@ -7,4 +7,4 @@ use Rattle.account.proofs.delivering.deliver.Given as goal
 abbrev pub invariant-messages : goal.invariant-messages
 invariant-messages g l =
     Left (with_all (g.O.Outlet.listing l.initial.outlet) (entries_from l.first (messages_in l.messages))) (g.O.Outlet.listing l.outlet)
-    (l.first + l.i) l.at (drop l.i (lengths_in l.messages)) l.messages.bytes.now
+    (l.first + l.i) (drop l.i (lengths_in l.messages)) l.rest
