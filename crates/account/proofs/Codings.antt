@@ -1,13 +1,11 @@
 -- What the coding layer did.
-use Rattle.std.proofs.Common.{◌≡◌, ℕ, Bool, true, false, cond, List, ◌++◌, length, take, Ok, Err, Result, sym, refl, ap, ◌∙◌, subst, arith}
-use Rattle.std.proofs.lemmas.List.{take_at}
+use Rattle.std.proofs.Common.{◌≡◌, ℕ, Bool, true, false, cond, List, Ok, Err, Result, refl, arith}
 use Rattle.base.specs.declared.refusal.Refusal.{Refusal}
 use Rattle.wire.specs.Bodies.{checked_of}
-use Rattle.wire.specs.Flags.{is_sealed}
 use Rattle.wire.specs.Reading.{and_then}
 use Rattle.wire.specs.declared.datagram.Packet.{Packet}
 use Rattle.account.specs.Arriving.{Coder, opened_by, plain_of}
-use Rattle.account.specs.Opened.{unit_of, OpenedTo}
+use Rattle.account.specs.Opened.{unit_of}
 
 then_ok : (b : Bool) (e : Refusal) (checked : Result (Unit {0}) Refusal) (x : List ℕ)
     → Ok tt ≡ unit_of (cond b (Err e) (and_then checked (λ _. Ok x))) → cond b (Err e) (and_then checked (λ _. Ok x)) ≡ Ok x
@@ -18,13 +16,3 @@ then_ok false e (Err f) x is = absurd (let z : ◌≡◌ {A = ℕ} 0 1 = cc in o
 pub plain_ok : (c : Coder) (p : Packet) (coded : List ℕ) → Ok tt ≡ unit_of (plain_of c p coded) → plain_of c p coded ≡ Ok (opened_by c p coded)
 unfolding plain_of
 plain_ok c p coded is = then_ok _ _ (checked_of p (opened_by c p coded)) (opened_by c p coded) is
-
-pub opened-ok : (o : Result (List ℕ) Refusal) (plain part rest : List ℕ) (size : ℕ) → o ≡ Ok plain → part ≡ plain → length plain ≡ size → OpenedTo o (Ok size) (part ++ rest)
-opened-ok o plain part rest size is same long =
-    subst (λ r. OpenedTo r (Ok size) (part ++ rest)) (sym is)
-    (ap Ok (sym long), ap (λ b. take (length plain) (b ++ rest)) same ∙ take_at plain rest (length plain) refl)
-
--- opening keeps the length
-pub opened-length : (c : Coder) (p : Packet) (coded : List ℕ) → ((n : ℕ) (b : List ℕ) → length (c.opens n b) ≡ length b) → length (opened_by c p coded) ≡ length coded
-opened-length c p coded keeps =
-    elim (is_sealed p.flag.0) as (λ b. length (cond b (c.opens p.first coded) coded) ≡ length coded) [ true ↦ keeps p.first coded | false ↦ refl ]

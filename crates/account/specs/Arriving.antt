@@ -16,6 +16,7 @@ use Rattle.wire.specs.declared.datagram.Packet.{Packet}
 use Rattle.wire.specs.declared.datagram.Reading.{Reading}
 use Rattle.wire.specs.declared.datagram.Reading.TheVariants as reading
 use Rattle.account.specs.Delivering.{delivered_of}
+use Rattle.account.specs.Ranges.{is_past}
 use Rattle.account.specs.Releasing.{buffers_fit}
 use Rattle.account.specs.States.{State, Done, state_of, done}
 use Rattle.account.specs.declared.account.numbers.Numbers.{Numbers}
@@ -39,10 +40,6 @@ with_partials s ps = state_of s.numbers s.shelf ps s.gaps s.outlet
 -- The highest number heard of is at least n.
 abbrev pub heard_to : Numbers → ℕ → Numbers
 heard_to a n = record { channel = a.channel; start = a.start; next = a.next; heard = max a.heard n; «end» = a.«end» }
-
-abbrev pub is_past : Option ℕ → ℕ → Bool
-is_past None n = false
-is_past (Some e) n = nat_lt e n
 
 -- A heartbeat of the channel.
 unfoldable pub beat_of : State → ℕ → Done

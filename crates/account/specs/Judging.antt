@@ -1,5 +1,5 @@
 -- Judge: the numbers from the next expected to below k are given up, and reported missing.
-use Rattle.std.specs.Prelude.{ℕ, ◌+◌, ◌-◌, Bool, false, not, ◌||◌, [], ◌∷◌, length, Some, None, Ok, Err, Option, Result, nat_le, nat_lt}
+use Rattle.std.specs.Prelude.{ℕ, ◌+◌, ◌-◌, Bool, not, ◌||◌, [], ◌∷◌, length, Ok, Err, Option, Result, nat_le, nat_lt}
 use Rattle.base.specs.Refusals.{first_of}
 use Rattle.base.specs.declared.refusal.Cause.{Cause}
 use Rattle.base.specs.declared.refusal.Cause.TheVariants.{JudgeNumber, GapRowsFull, OutletFull}
@@ -9,21 +9,18 @@ use Rattle.parts.specs.Holdings.{lowest_of}
 use Rattle.parts.specs.Listings.{fits, with_entry}
 use Rattle.account.specs.Delivering.{next_at}
 use Rattle.account.specs.Gaps.{with_gap}
+use Rattle.account.specs.Ranges.{is_past}
 use Rattle.account.specs.States.{State, Done, state_of, done}
 use Rattle.account.specs.declared.account.numbers.Numbers.{Numbers}
 use Rattle.account.specs.declared.answer.Answer.{Answer}
 use Rattle.account.specs.declared.answer.Answer.TheVariants as answers
-
-abbrev pub is_below : Option ℕ → ℕ → Bool
-is_below None k = false
-is_below (Some lowest) k = nat_lt lowest k
 
 abbrev refused_at : State → Cause → Refusal
 refused_at s cause = record { cause = cause; value = s.numbers.next }
 
 -- k is not above the next expected number, above one more than what was heard, or above the lowest that is held.
 abbrev pub out_of_reach : Numbers → Option ℕ → ℕ → Bool
-out_of_reach a lowest k = nat_le k a.next || (nat_lt (a.heard + 1) k || is_below lowest k)
+out_of_reach a lowest k = nat_le k a.next || (nat_lt (a.heard + 1) k || is_past lowest k)
 
 abbrev pub judge_answer : State → ℕ → Result Answer Refusal
 judge_answer s k =

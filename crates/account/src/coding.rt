@@ -1,11 +1,11 @@
 // Opening a coded body.
-ghost use Rattle.std.specs.Prelude.{◌≡◌, ◌≤◌, length, IfOk, OnOk};
-ghost use Rattle.base.specs.Limits.{body_room};
+ghost use Rattle.std.specs.Prelude.{◌≡◌, OnOk};
 ghost use Rattle.account.specs.Arriving.{coder_of, opened_by, plain_of};
-ghost use Rattle.account.specs.Opened.{OpenedTo, unit_of};
+ghost use Rattle.account.specs.Opened.{unit_of, opened_to};
 
+use crate::body::Body;
 use base::limits::BODY_ROOM;
-use base::{Cause, Refusal, write_at};
+use base::{Cause, Refusal};
 use parts::OpeningCoder;
 use wire::{Packet, check_body};
 
@@ -24,19 +24,18 @@ fn open_part<C: OpeningCoder>(packet: Packet, part: &mut [u8], coder: &C) -> Res
     check_body(packet, part)
 }
 
-// Writes the plain body of a coded one to the front of a buffer, and answers how long it is.
-pub(crate) fn open_body<C: OpeningCoder>(
+// Opens a coded body into a buffer.
+#[tactic(auto, using(crate::proofs::Codings::plain_ok))]
+pub(crate) fn open_body<'a, C: OpeningCoder>(
     packet: Packet,
-    coded: &[u8],
-    plain: &mut [u8; BODY_ROOM],
+    coded: Body<'_>,
+    plain: &'a mut [u8; BODY_ROOM],
     coder: &C,
-) -> Result<usize, Refusal>
-    requires { length coded.now ≤ body_room }
-    ensures opened { OpenedTo (plain_of (coder_of (C.ready coder.now) (C.opens coder.now)) packet coded.now) result plain.new }
-    ensures short { IfOk result (λ size. size ≤ length plain.new) }
+) -> Result<Body<'a>, Refusal>
+    ensures { opened_to result ≡ plain_of (coder_of (C.ready coder.now) (C.opens coder.now)) packet coded.entry.bytes.now }
 {
-    let size = coded.len();
-    let _ = write_at(plain, 0, coded);
-    open_part(packet, &mut plain[..size], coder)?;
-    Ok(size)
+    let bytes = &mut plain[..coded.bytes.len()];
+    bytes.copy_from_slice(coded.bytes);
+    open_part(packet, bytes, coder)?;
+    Ok(Body { bytes })
 }

@@ -6,6 +6,7 @@ ghost use Rattle.account.specs.Arriving.{head_for, comes_to, ended_by};
 ghost use Rattle.account.specs.Joined.{JoinedTo};
 
 use crate::arrival::Arrival;
+use crate::body::Body;
 use base::Refusal;
 use base::limits::BODY_ROOM;
 use partials::{Joined, PartialHead, Partials};
@@ -43,11 +44,16 @@ pub(crate) fn join(
 }
 
 // The coded body of a whole packet.
-pub(crate) fn whole_body<'a>(arrival: Arrival<'a>, size: usize, joining: &'a [u8]) -> &'a [u8]
+pub(crate) fn whole_body<'a>(
+    arrival: Arrival<'a>,
+    size: usize,
+    joining: &'a [u8; BODY_ROOM],
+) -> Body<'a>
     requires { is_some (coded_of arrival.packet arrival.datagram.now size joining.now) ≡ true }
-    ensures { Some result.now ≡ coded_of arrival.entry.packet arrival.entry.datagram.now size joining.now }
+    ensures { Some result.bytes.now ≡ coded_of arrival.entry.packet arrival.entry.datagram.now size joining.now }
 {
-    coded_body(arrival.packet, arrival.datagram, size, joining).unwrap()
+    let bytes = coded_body(arrival.packet, arrival.datagram, size, joining).unwrap();
+    Body { bytes }
 }
 
 // Ends the partial of a packet that was taken, if it was joined.

@@ -4,6 +4,7 @@
 pub mod account;
 pub mod answer;
 mod arrival;
+mod body;
 mod coding;
 mod delivering;
 pub mod gaps;

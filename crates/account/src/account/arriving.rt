@@ -1,6 +1,5 @@
 // What a datagram comes to, layer by layer.
-ghost use Rattle.std.specs.Prelude.{◌≡◌, ◌≤◌, List, length};
-ghost use Rattle.base.specs.Limits.{body_room};
+ghost use Rattle.std.specs.Prelude.{◌≡◌, List};
 ghost use Rattle.partials.specs.Joining.{Partial};
 ghost use Rattle.partials.specs.Meaning.{partials_of};
 ghost use Rattle.wire.specs.Reading.{reading_of};
@@ -12,6 +11,7 @@ ghost use Rattle.account.specs.States.{numbers_of, state_of, done};
 use super::Account;
 use crate::answer::Answer;
 use crate::arrival::Arrival;
+use crate::body::Body;
 use crate::coding::open_body;
 use crate::joining::{end_joined, join, whole_body};
 use crate::refusing::refusal_of;
@@ -27,25 +27,23 @@ impl Account {
     fn take_whole<S: Shelf, O: Outlet, C: OpeningCoder>(
         &mut self,
         arrival: Arrival<'_>,
-        coded: &[u8],
+        coded: Body<'_>,
         plain: &mut [u8; BODY_ROOM],
         shelf: &mut S,
         outlet: &mut O,
         coder: &C,
     ) -> Result<Answer, Refusal>
-        requires { length coded.now ≤ body_room }
         ensures { (ps : List Partial) (g : Gaps) →
             done result (state_of (numbers_of self.new) (S.holding shelf.new) ps g (O.listing outlet.new))
             ≡ whole_of (coder_of (C.ready coder.now) (C.opens coder.now))
             (state_of (numbers_of self.old) (S.holding shelf.old) ps g (O.listing outlet.old))
-            arrival.entry.packet coded.now }
+            arrival.entry.packet coded.entry.bytes.now }
     {
         let opened = open_body(arrival.packet, coded, plain, coder);
-        let Ok(size) = opened else {
+        let Ok(body) = opened else {
             return Err(refusal_of(opened));
         };
-        let body = &plain[..size];
-        let cut = split(body, arrival.packet.count);
+        let cut = split(body.bytes, arrival.packet.count);
         let Ok(messages) = cut else {
             return Err(refusal_of(cut));
         };

@@ -12,6 +12,7 @@ use super::Account;
 use crate::answer::Answer;
 use base::{Cause, Refusal};
 
+// The bound of a number that comes is one short clause in each of these; a type for it would be made anew at each call.
 impl Account {
     // Has heard of a number.
     pub(super) fn hear(&mut self, number: u64)

@@ -1,6 +1,5 @@
 // Placing a whole packet.
-ghost use Rattle.std.specs.Prelude.{◌≡◌, ◌≤◌, List, length};
-ghost use Rattle.base.specs.Limits.{body_room};
+ghost use Rattle.std.specs.Prelude.{◌≡◌, List, length};
 ghost use Rattle.parts.specs.Listings.{Listing};
 ghost use Rattle.partials.specs.Joining.{Partial};
 ghost use Rattle.wire.specs.Messages.{messages_in};
@@ -11,6 +10,7 @@ ghost use Rattle.account.specs.States.{numbers_of, state_of, done};
 use super::Account;
 use crate::answer::Answer;
 use crate::arrival::Arrival;
+use crate::body::Body;
 use base::{Cause, Refusal};
 use parts::{Outlet, Shelf};
 use wire::Messages;
@@ -21,16 +21,15 @@ impl Account {
     fn hold<S: Shelf>(
         &mut self,
         arrival: Arrival<'_>,
-        plain: &[u8],
+        plain: Body<'_>,
         shelf: &mut S,
     ) -> Result<Answer, Refusal>
-        requires { length plain.now ≤ body_room }
         ensures { (ps : List Partial) (g : Gaps) (l : Listing) →
             done result (state_of (numbers_of self.new) (S.holding shelf.new) ps g l)
-            ≡ held_of (state_of (numbers_of self.old) (S.holding shelf.old) ps g l) arrival.entry.packet plain.now }
+            ≡ held_of (state_of (numbers_of self.old) (S.holding shelf.old) ps g l) arrival.entry.packet plain.entry.bytes.now }
     {
         let packet = arrival.packet;
-        match shelf.put(packet.first, packet.count, plain) {
+        match shelf.put(packet.first, packet.count, plain.bytes) {
             Ok(()) => {
                 self.hear(arrival.last());
                 Ok(Answer::Held)
@@ -50,17 +49,16 @@ impl Account {
     pub(super) fn place<S: Shelf, O: Outlet>(
         &mut self,
         arrival: Arrival<'_>,
-        plain: &[u8],
+        plain: Body<'_>,
         messages: Messages<'_>,
         shelf: &mut S,
         outlet: &mut O,
     ) -> Result<Answer, Refusal>
-        requires short { length plain.now ≤ body_room }
-        requires number { length messages.lengths.now ≡ arrival.packet.count }
+        requires { length messages.lengths.now ≡ arrival.packet.count }
         ensures { (ps : List Partial) (g : Gaps) →
             done result (state_of (numbers_of self.new) (S.holding shelf.new) ps g (O.listing outlet.new))
             ≡ placed_of (state_of (numbers_of self.old) (S.holding shelf.old) ps g (O.listing outlet.old))
-            arrival.entry.packet plain.now (messages_in messages.entry) }
+            arrival.entry.packet plain.entry.bytes.now (messages_in messages.entry) }
     {
         let packet = arrival.packet;
         let last = arrival.last();
