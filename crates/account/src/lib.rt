@@ -9,7 +9,6 @@ mod coding;
 mod delivering;
 pub mod gaps;
 mod joining;
-mod refusing;
 
 pub use account::{Account, Numbers};
 pub use answer::Answer;

@@ -1,4 +1,5 @@
-// What a datagram comes to, layer by layer.
+// What a datagram comes to, layer by layer. Each layer's answer is taken by a `let .. else` of its own and not by `?`, so
+// that it is seen where a refusal leaves.
 ghost use Rattle.std.specs.Prelude.{◌≡◌, List};
 ghost use Rattle.partials.specs.Joining.{Partial};
 ghost use Rattle.partials.specs.Meaning.{partials_of};
@@ -14,7 +15,6 @@ use crate::arrival::Arrival;
 use crate::body::Body;
 use crate::coding::open_body;
 use crate::joining::{end_joined, join, whole_body};
-use crate::refusing::refusal_of;
 use base::limits::BODY_ROOM;
 use base::{Cause, Refusal, zero};
 use partials::{Joined, Partials};
@@ -41,11 +41,11 @@ impl Account {
     {
         let opened = open_body(arrival.packet, coded, plain, coder);
         let Ok(body) = opened else {
-            return Err(refusal_of(opened));
+            return Err(opened.unwrap_err());
         };
         let cut = split(body.bytes, arrival.packet.count);
         let Ok(messages) = cut else {
-            return Err(refusal_of(cut));
+            return Err(cut.unwrap_err());
         };
         self.place(arrival, body, messages, shelf, outlet)
     }
@@ -73,7 +73,7 @@ impl Account {
         }
         let joined = join(arrival, partials, joining);
         let Ok(came) = joined else {
-            return Err(refusal_of(joined));
+            return Err(joined.unwrap_err());
         };
         let size = match came {
             Joined::Again => return Ok(Answer::FragmentAgain),
@@ -105,7 +105,7 @@ impl Account {
     {
         let read = read(datagram, self.numbers.channel);
         let Ok(reading) = read else {
-            return Err(refusal_of(read));
+            return Err(read.unwrap_err());
         };
         match reading {
             Reading::Heartbeat { sender: _ } => Ok(Answer::Heartbeat),

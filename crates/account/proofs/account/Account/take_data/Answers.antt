@@ -14,9 +14,9 @@ returns-in_default g c gaps =
     let p = c.args.arrival.packet in
     let d = c.args.arrival.datagram.now in
     let o = comes_to s.partials p d in
-    let came = came_refused p d c.join-joined.new.joining s.partials (partials_of c.join-joined.new.partials) o c.refusal_of.result
-        (subst (λ r. JoinedTo o p d s.partials r (partials_of c.join-joined.new.partials) c.join-joined.new.joining) c.refusal_of.ensures c.join-joined.ensures) in
-    ap (λ ps. done (Err c.refusal_of.result) (with_partials s ps)) came.1 ∙ data_by _ s p d c.if-arrival-self.false (refused c.refusal_of.result) came.0
+    let came = came_refused p d c.join-joined.new.joining s.partials (partials_of c.join-joined.new.partials) o c.unwrap_err.result
+    (subst (λ r. JoinedTo o p d s.partials r (partials_of c.join-joined.new.partials) c.join-joined.new.joining) c.unwrap_err.ensures c.join-joined.ensures) in
+    ap (λ ps. done (Err c.unwrap_err.result) (with_partials s ps)) came.1 ∙ data_by _ s p d c.if-arrival-self.false (refused c.unwrap_err.result) came.0
 
 pub returns-in-Again : goal.returns-in-Again
 returns-in-Again g c gaps =
@@ -25,7 +25,7 @@ returns-in-Again g c gaps =
     let d = c.args.arrival.datagram.now in
     let o = comes_to s.partials p d in
     let came = came_again p d c.join-joined.new.joining s.partials (partials_of c.join-joined.new.partials) o
-        (subst (λ r. JoinedTo o p d s.partials r (partials_of c.join-joined.new.partials) c.join-joined.new.joining) (c.in-Ok.is ∙ ap Ok c.in-Again.is) c.join-joined.ensures) in
+    (subst (λ r. JoinedTo o p d s.partials r (partials_of c.join-joined.new.partials) c.join-joined.new.joining) (c.in-Ok.is ∙ ap Ok c.in-Again.is) c.join-joined.ensures) in
     ap (λ ps. done (Ok answers.FragmentAgain) (with_partials s ps)) came.1 ∙ data_by _ s p d c.if-arrival-self.false again came.0
 
 pub returns-in-Kept : goal.returns-in-Kept
@@ -58,7 +58,7 @@ returns-in_err-taken g c gaps =
     let coder : Coder = coder_of (g.C.OpeningCoder.ready c.args.coder.now) (g.C.OpeningCoder.opens c.args.coder.now) in
     let coded = c.whole_body-coded.result.bytes.now in
     let came = came_whole p d c.join-joined.new.joining s.partials qs o c.in-Whole.size coded
-        (subst (λ r. JoinedTo o p d s.partials r qs c.join-joined.new.joining) (c.in-Ok.is ∙ ap Ok c.in-Whole.is) c.join-joined.ensures) c.whole_body-coded.ensures in
+    (subst (λ r. JoinedTo o p d s.partials r qs c.join-joined.new.joining) (c.in-Ok.is ∙ ap Ok c.in-Whole.is) c.join-joined.ensures) c.whole_body-coded.ensures in
     let refusal = c.in_err-taken.field-0.0 in
     let t = state_of (numbers_of c.take_whole.new.self) (g.S.Shelf.holding c.take_whole.new.shelf) s.partials gaps (g.O.Outlet.listing c.take_whole.new.outlet) in
     let taken : done (Err refusal) t ≡ whole_of coder s p coded = ap (λ r. done r t) (sym c.in_err-taken.was) ∙ c.take_whole.ensures s.partials gaps in
@@ -75,7 +75,7 @@ returns g c gaps =
     let coder : Coder = coder_of (g.C.OpeningCoder.ready c.args.coder.now) (g.C.OpeningCoder.opens c.args.coder.now) in
     let coded = c.whole_body-coded.result.bytes.now in
     let came = came_whole p d c.join-joined.new.joining s.partials qs o c.in-Whole.size coded
-        (subst (λ r. JoinedTo o p d s.partials r qs c.join-joined.new.joining) (c.in-Ok.is ∙ ap Ok c.in-Whole.is) c.join-joined.ensures) c.whole_body-coded.ensures in
+    (subst (λ r. JoinedTo o p d s.partials r qs c.join-joined.new.joining) (c.in-Ok.is ∙ ap Ok c.in-Whole.is) c.join-joined.ensures) c.whole_body-coded.ensures in
     let t = state_of (numbers_of c.take_whole.new.self) (g.S.Shelf.holding c.take_whole.new.shelf) s.partials gaps (g.O.Outlet.listing c.take_whole.new.outlet) in
     let taken : done (Ok c.in_ok-taken.taken) t ≡ whole_of coder s p coded = ap (λ r. done r t) (sym c.in_ok-taken.was) ∙ c.take_whole.ensures s.partials gaps in
     ap (λ ps. done (Ok c.in_ok-taken.taken) (with_partials t ps)) (c.end_joined.ensures ∙ ap (ended_by p.fragment p) came.1)
