@@ -1,5 +1,6 @@
 // The Flag word of a header, by its bits.
-ghost use Rattle.std.specs.Prelude.{◌≡◌, ◌==◌, nat_lt, not, is_none};
+ghost use Rattle.std.specs.Prelude.{◌≡◌, ◌<◌, ◌==◌, nat_lt, not, is_none};
+ghost use Rattle.base.specs.Fields.{bits};
 ghost use Rattle.wire.specs.Flags.{message_type, type_numbered, is_by_number, compression, encryption, encryption_numbered, has_lengths, is_fragmented, has_checksum, reserved, is_sealed};
 ghost use Rattle.wire.specs.Reading.{words_for};
 
@@ -22,12 +23,21 @@ pub(crate) enum Encryption {
 }
 
 impl Flag {
+    // The number in so many bits, from the bit `low` on.
+    fn bits(self, low: u32, width: u32) -> u16
+        requires low { low < 16 }
+        requires width { width < 16 }
+        ensures { result ≡ bits self.0 low width }
+    {
+        (self.0 >> low) % (1 << width)
+    }
+
     // None where the type is reserved.
     pub(crate) fn message_type(self) -> Option<MessageType>
         ensures value { result ≡ type_numbered (message_type self.0) }
         ensures reserved { is_none result ≡ nat_lt 1 (message_type self.0) }
     {
-        match (self.0 >> 13) % 4 {
+        match self.bits(13, 2) {
             0 => Some(MessageType::Management),
             1 => Some(MessageType::Application),
             _ => None,
@@ -37,13 +47,13 @@ impl Flag {
     pub(crate) fn is_by_number(self) -> bool
         ensures { result ≡ is_by_number self.0 }
     {
-        (self.0 >> 12) % 2 == 1
+        self.bits(12, 1) == 1
     }
 
     pub(crate) fn is_compressed(self) -> bool
         ensures { result ≡ not (compression self.0 == 0) }
     {
-        (self.0 >> 10) % 4 != 0
+        self.bits(10, 2) != 0
     }
 
     // None where the encryption is reserved.
@@ -51,7 +61,7 @@ impl Flag {
         ensures value { result ≡ encryption_numbered (encryption self.0) }
         ensures reserved { is_none result ≡ nat_lt 1 (encryption self.0) }
     {
-        match (self.0 >> 8) % 4 {
+        match self.bits(8, 2) {
             0 => Some(Encryption::Plain),
             1 => Some(Encryption::Token),
             _ => None,
@@ -61,25 +71,25 @@ impl Flag {
     pub(crate) fn has_lengths(self) -> bool
         ensures { result ≡ has_lengths self.0 }
     {
-        (self.0 >> 7) % 2 == 1
+        self.bits(7, 1) == 1
     }
 
     pub(crate) fn is_fragmented(self) -> bool
         ensures { result ≡ is_fragmented self.0 }
     {
-        (self.0 >> 6) % 2 == 1
+        self.bits(6, 1) == 1
     }
 
     pub(crate) fn has_checksum(self) -> bool
         ensures { result ≡ has_checksum self.0 }
     {
-        (self.0 >> 5) % 2 == 1
+        self.bits(5, 1) == 1
     }
 
     pub(crate) fn has_reserved_bits(self) -> bool
         ensures { result ≡ not (reserved self.0 == 0) }
     {
-        self.0 % 32 != 0
+        self.bits(0, 5) != 0
     }
 
     // The words of a header: five, one more for the fragment's numbers and one more for the body's checksum.
