@@ -12,6 +12,7 @@ use Rattle.wire.specs.declared.flag.Encryption.TheVariants.{Plain, Token}
 abbrev pub message_type : ℕ → ℕ
 message_type flag = bits flag 13 2
 
+-- the type of a number; 2 and 3 are reserved
 abbrev pub type_numbered : ℕ → Option MessageType
 type_numbered zero = Some Management
 type_numbered (suc zero) = Some Application
@@ -29,6 +30,7 @@ compression flag = bits flag 10 2
 abbrev pub encryption : ℕ → ℕ
 encryption flag = bits flag 8 2
 
+-- the encryption of a number; 2 and 3 are reserved
 abbrev pub encryption_numbered : ℕ → Option Encryption
 encryption_numbered zero = Some Plain
 encryption_numbered (suc zero) = Some Token

@@ -49,6 +49,7 @@ fn framed_head(datagram: &[u8]) -> Result<Head, Refusal>
     if !(MIN_DATAGRAM..=MAX_DATAGRAM).contains(&size) {
         return Err(Refusal::new(Cause::DatagramSize, 0));
     }
+    // The first four bytes have names before anything behind them is read.
     let [protocol, version, header_size, sender, rest @ ..] = datagram else {
         return Err(Refusal::new(Cause::DatagramSize, 0));
     };

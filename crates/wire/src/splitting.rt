@@ -35,6 +35,7 @@ pub fn split(body: &[u8], count: u16) -> Result<Messages<'_>, Refusal>
     let (table, bytes) = body.split_at(4 * n);
     let (lengths, _) = table.as_chunks::<4>();
     let mut at = 4 * n;
+    // A loop by index, since the index is the value of the refusal.
     for (i, length) in lengths.iter().enumerate() {
         let misfit = Refusal::new(Cause::MessageLengths, i as u64 + 1);
         at = end_of(at, *length, body.len()).ok_or(misfit)?;
