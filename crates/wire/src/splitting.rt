@@ -1,7 +1,7 @@
 // Splitting a plain body into its messages.
-ghost use Rattle.std.specs.Prelude.{◌≡◌, ◌≤◌, IfSome};
+ghost use Rattle.std.specs.Prelude.{◌≡◌, ◌≤◌, map, length, IfSome, IfOk};
 ghost use Rattle.base.specs.Fields.{be};
-ghost use Rattle.wire.specs.Messages.{split_in};
+ghost use Rattle.wire.specs.Messages.{split_in, lengths_in, messages_in};
 ghost use Rattle.wire.specs.Splitting.{end_at, split_of, Exact};
 
 use crate::messages::Messages;
@@ -26,6 +26,7 @@ fn end_of(at: usize, length: [u8; 4], size: usize) -> Option<usize>
 #[tactic(auto, using(crate::proofs::Exactly::exact), unfolding(crate::specs::Splitting::split_of))]
 pub fn split(body: &[u8], count: u16) -> Result<Messages<'_>, Refusal>
     ensures value { split_in result ≡ split_of count body.now }
+    ensures lengths { IfOk result (λ m. lengths_in m ≡ map length (messages_in m)) }
     ensures exact { Exact count body.now }
 {
     let n = usize::from(count);

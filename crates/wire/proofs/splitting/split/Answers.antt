@@ -1,5 +1,6 @@
 use Rattle.std.proofs.Common.{arith, rules}
 use Rattle.wire.proofs.Cuts.{reaches_none, reaches_more, split_here, split_behind, split_whole, sum_whole}
+use Rattle.wire.proofs.MessageLemmas.{lengths_in_lem}
 use Rattle.wire.proofs.splitting.split.Goals as goal
 
 pub loop-i-init : goal.loop-i-init
@@ -21,3 +22,6 @@ invariant_of-result c = let whole = sum_whole _ _ _ _ _ c.loop-i.invariant (omeg
 
 pub returns-clause-value : goal.returns-clause-value
 returns-clause-value c = let fits = split_whole _ _ _ _ _ c.loop-i.invariant (omega arith) (omega arith) in search rules
+
+pub returns-clause-lengths : goal.returns-clause-lengths
+returns-clause-lengths c = search (rules, lengths_in_lem)
