@@ -1,7 +1,6 @@
 -- Rows with distinct numbers: how they rise, and where one of them is.
-use Rattle.std.proofs.Common.{◌≡◌, ℕ, zero, suc, ◌<◌, ◌≤◌, Bool, true, false, cond, eqb, ltb, leb, List, [], ◌∷◌, length, get_or, take, is_some, Some, None, Option, sym, refl, ap, ◌∙◌, ⊎_elim, arith}
+use Rattle.std.proofs.Common.{◌≡◌, ℕ, zero, suc, ◌<◌, ◌≤◌, Bool, true, false, cond, eqb, ltb, leb, List, [], ◌∷◌, length, get_or, is_some, Some, None, Option, refl, ap, ◌∙◌, ⊎_elim, arith}
 use Rattle.std.specs.Option.{option_map}
-use Rattle.std.proofs.lemmas.List.{length-take, get_or-take}
 use Rattle.std.proofs.lemmas.Bool.{cases_Bool, cases_eq, ltb-true, lt-ltb, eqb-false, leb-true, leb-false, eq-eqb, ne_eqb, and_parts, and_from, cond-true, cond-false}
 use Rattle.rows.specs.Order.{all_above, rises, index_of, row_of, insert_by, remove_by}
 use Rattle.rows.specs.declared.row.Row.{Row}
@@ -75,16 +74,3 @@ module _ {P : Type 0} where
   remove_absent k (x ∷ xs) e =
       let h = none_parts (eqb x.number k) x (row_of k xs) e in
       cond-false (eqb x.number k) _ _ h.0 ∙ ap (λ l. x ∷ l) (remove_absent k xs h.1)
-
--- Among the first of the lent rows.
-module _ {P : Type 0} (xs : List (Row P)) (len : ℕ) where
-  number_used : (i : ℕ) (d : Row P) → i < length (take len xs) → (get_or (take len xs) i d).number ≡ (get_or xs i d).number
-  number_used i d lt = ap (λ (r : Row P). r.number) (get_or-take len xs i d (omega (arith, length-take len xs)))
-
-  pub index_used : (k i : ℕ) → i < length (take len xs) → ((j : ℕ) (d : Row P) → j < i → (get_or xs j d).number ≡ k → ⊥) → ((d : Row P) → (get_or xs i d).number ≡ k)
-      → Some i ≡ index_of k (take len xs)
-  index_used k i lt before here =
-      sym (index_is k (take len xs) i lt (λ j d h e. before j d h (sym (number_used j d (omega arith)) ∙ e)) (λ d. number_used i d lt ∙ here d))
-
-  pub none_used : (k : ℕ) → ((j : ℕ) (d : Row P) → j < length (take len xs) → (get_or xs j d).number ≡ k → ⊥) → None ≡ index_of k (take len xs)
-  none_used k lack = sym (index_none k (take len xs) (λ j d h e. lack j d h (sym (number_used j d h) ∙ e)))

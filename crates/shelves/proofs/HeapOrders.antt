@@ -141,10 +141,6 @@ module _ (f g : ℕ → ℕ) (n : ℕ) where
         over = λ i p q e z. absurd (omega arith);
       }
 
-  -- Fewer.
-  pub heap_front : (N : ℕ) → n ≤ N → heap_to f N ≡ true → ((i : ℕ) → i < n → g i ≡ f i) → heap_to g n ≡ true
-  heap_front N le h same = heap_by g n (λ i p q. omega (arith, same i q, same (above i) (omega arith), heap_at f N h i (omega arith)))
-
 module _ {P : Type 0} where
   pub number-at : (xs : List (Row P)) (i : ℕ) (d : Row P) → i < length xs → number_at xs i ≡ (get_or xs i d).number
   number-at [] i d lt = absurd (omega arith)

@@ -206,9 +206,6 @@ module _ {P : Type 0} where
   pub missed_sorted : (k : ℕ) (xs : List (Row P)) → rises (sort_by xs) ≡ true → index_of k xs ≡ None → row_of k (sort_by xs) ≡ None
   missed_sorted k xs s e = sort_row k xs s ∙ (absent k xs e).row
 
-  pub found_sorted : (k : ℕ) (xs : List (Row P)) (i : ℕ) → rises (sort_by xs) ≡ true → index_of k xs ≡ Some i → slice_get xs i ≡ row_of k (sort_by xs)
-  found_sorted k xs i s e = sym (sort_row k xs s ∙ (at k xs i e).row)
-
   pub found_upto : (k : ℕ) (xs : List (Row P)) (len i : ℕ) (r : Row P) → len ≤ length xs → rises (sort_by (take len xs)) ≡ true → index_of k (take len xs) ≡ Some i → r ≡ get_or xs i r
       → row_of k (sort_by (take len xs)) ≡ Some r
   found_upto k xs len i r fits s e is =
