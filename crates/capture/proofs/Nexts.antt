@@ -1,5 +1,5 @@
 -- The parts of a capture that the reader cuts off.
-use Rattle.std.proofs.Common.{◌≡◌, ℕ, ◌+◌, ◌-◌, ◌*◌, ◌<◌, ◌≤◌, Bool, true, cond, ◌&&◌, eqb, leb, List, [], ◌∷◌, length, get_or, take, drop, Some, None, Option, sym, ap, ◌∙◌, arith}
+use Rattle.std.proofs.Common.{◌≡◌, ℕ, ◌+◌, ◌-◌, ◌*◌, ◌<◌, ◌≤◌, Bool, true, false, cond, ◌&&◌, eqb, leb, List, [], ◌∷◌, length, get_or, take, drop, Some, None, Option, sym, ap, ◌∙◌, arith}
 use Rattle.std.proofs.lemmas.List.{take_rest, drop-drop}
 use Rattle.std.proofs.lemmas.Bool.Decides.{nat_tests}
 use lib.Pointwise.{pointwise}
@@ -37,21 +37,29 @@ datagram-cut xs size body d rest n l e es eb lb en fit ed er =
     ∙ sym (first-test (length xs) (get_or xs 0 0) nothing (datagram_in xs) (cond (eqb (get_or xs 0 0) 2) (judge_in xs) (last malformed)) (omega arith) e
     ∙ both_test 3 (3 + be 2 xs 1) (length xs) (one (datagram (take (be 2 xs 1) (drop 3 xs))) (drop (3 + be 2 xs 1) xs)) (last malformed) (omega arith) (omega (arith, same)))
 
--- a capture that begins with its mark
-mark_tests : (a b d e f : ℕ) → (eqb a 77 && (eqb b 68 && (eqb d 67 && (eqb e 0 && (eqb f 1 && true))))) ≡ true
-    → (eqb a 77 && (eqb b 68 && (eqb d 67 && eqb ((0 + e) * 256 + f) 1))) ≡ true
-mark_tests a b d e f h = grind (arith, nat_tests)
+-- the mark and the version of a capture are its first five bytes
+mark_tests : (a b d e f : ℕ)
+    → (eqb a 77 && (eqb b 68 && (eqb d 67 && (eqb e 0 && (eqb f 1 && true))))) ≡ (eqb a 77 && (eqb b 68 && (eqb d 67 && eqb ((0 + e) * 256 + f) 1)))
+mark_tests a b d e f = grind (arith, nat_tests)
 
 abbrev pub mark : List ℕ
 mark = 77 ∷ (68 ∷ (67 ∷ (0 ∷ (1 ∷ []))))
 
-marked : (xs : List ℕ) → 5 ≤ length xs → pointwise eqb (take 5 xs) mark ≡ true → is_marked xs ≡ true
-marked [] l h = absurd (omega arith)
-marked (a ∷ []) l h = absurd (omega arith)
-marked (a ∷ (b ∷ [])) l h = absurd (omega arith)
-marked (a ∷ (b ∷ (d ∷ []))) l h = absurd (omega arith)
-marked (a ∷ (b ∷ (d ∷ (e ∷ [])))) l h = absurd (omega arith)
-marked (a ∷ (b ∷ (d ∷ (e ∷ (f ∷ xs))))) l h = mark_tests a b d e f h
+marked : (xs : List ℕ) → 5 ≤ length xs → pointwise eqb (take 5 xs) mark ≡ is_marked xs
+marked [] l = absurd (omega arith)
+marked (a ∷ []) l = absurd (omega arith)
+marked (a ∷ (b ∷ [])) l = absurd (omega arith)
+marked (a ∷ (b ∷ (d ∷ []))) l = absurd (omega arith)
+marked (a ∷ (b ∷ (d ∷ (e ∷ [])))) l = absurd (omega arith)
+marked (a ∷ (b ∷ (d ∷ (e ∷ (f ∷ xs))))) l = mark_tests a b d e f
+
+other-header : (l : ℕ) (b : Bool) (x : Option Contents) → (15 ≤ l → b ≡ false) → None ≡ cond (leb l 65536 && (leb 15 l && b)) x None
+other-header l b x h = grind (arith, nat_tests)
+
+pub other_mark : (xs : List ℕ) → pointwise eqb (take 5 xs) mark ≡ false → None ≡ contents_of xs
+other_mark xs e =
+    other-header (length xs) (is_marked xs) (Some (record { channel = be 2 xs 5; start = be 8 xs 7; records = drop 15 xs }))
+    (λ l. sym (marked xs (omega arith)) ∙ e)
 
 pub header-test : (l : ℕ) (b : Bool) (x y : Option Contents) → l ≤ 65536 → 15 ≤ l → b ≡ true → cond (leb l 65536 && (leb 15 l && b)) x y ≡ x
 header-test l b x y h k e = grind (arith, nat_tests)
@@ -68,4 +76,4 @@ header-cut xs rest channel more start records n s l m er lr ec em lm es eb lb en
     ∙ ap (λ v. Some (record { channel = be 2 xs 5; start = v; records = records })) starts
     ∙ ap (λ v. Some (record { channel = be 2 xs 5; start = be 8 xs 7; records = v })) left
     ∙ sym (header-test (length xs) (is_marked xs) (Some (record { channel = be 2 xs 5; start = be 8 xs 7; records = drop 15 xs })) None l (omega arith)
-    (marked xs (omega arith) m))
+    (sym (marked xs (omega arith)) ∙ m))

@@ -36,6 +36,7 @@ pub(crate) fn push_refusal(page: &mut Page, index: u64, refusal: Refusal)
     page.push("\n");
 }
 
+// No `push_refusal`: nothing comes behind the number of the cause.
 #[tactic(auto, unfolding(crate::specs::Inspecting::malformed_line))]
 pub(crate) fn push_malformed(page: &mut Page, index: u64)
     ensures text { sheet page.new ≡ wrote_all (sheet page.old) (malformed_line index) }

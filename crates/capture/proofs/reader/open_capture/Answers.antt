@@ -1,6 +1,9 @@
-use Rattle.std.proofs.Common.{arith}
-use Rattle.capture.proofs.Nexts.{header-cut}
+use Rattle.std.proofs.Common.{arith, rules}
+use Rattle.capture.proofs.Nexts.{header-cut, other_mark}
 use Rattle.capture.proofs.reader.open_capture.Goals as goal
+
+pub returns-in_err-rest : goal.returns-in_err-rest
+returns-in_err-rest c = let none = other_mark c.args.bytes.now c.in_err-rest.ensures.cases in search rules
 
 pub returns : goal.returns
 returns c =
