@@ -5,7 +5,7 @@ ghost use Rattle.base.specs.Limits.{max_fragments};
 use crate::head::PartialHead;
 use base::limits::MAX_FRAGMENTS;
 
-// The pieces of a row.
+// The pieces of a row. It is `as`, since no constant can call `usize::from`.
 pub(crate) const PIECES: usize = MAX_FRAGMENTS as usize;
 
 const NO_HEAD: PartialHead = PartialHead {
