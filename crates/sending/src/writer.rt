@@ -9,7 +9,7 @@ use base::{adler32, zero_from};
 pub(crate) struct Writer<'a> {
     buffer: &'a mut [u8],
     len: usize,
-    // The library's conversion to an array type does not say what it leaves in the slice.
+    // No array type: the library's `try_from` to `&mut [u8; N]` does not say what the slice is afterwards.
     ghost sized: { length buffer.now ≡ 1472 },
     ghost within: { len ≤ 1472 },
 }
