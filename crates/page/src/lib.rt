@@ -2,6 +2,5 @@
 #![tactic(auto)]
 
 mod page;
-mod writing;
 
 pub use self::page::Page;
