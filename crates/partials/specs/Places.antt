@@ -1,11 +1,11 @@
 -- How partials lie in rows and memory, and what holds of these at all times.
-use Rattle.std.specs.Prelude.{◌≡◌, ℕ, ◌+◌, ◌-◌, ◌*◌, ◌≤◌, Bool, cond, not, ◌||◌, List, [], ◌∷◌, ◌++◌, map, length, take, drop, sum, count_by, Some, None, Option, Result, ◌==◌, nat_lt}
+use Rattle.std.specs.Prelude.{◌≡◌, ℕ, ◌+◌, ◌-◌, ◌*◌, Bool, cond, not, ◌||◌, List, [], ◌∷◌, ◌++◌, map, take, drop, sum, count_by, Some, None, Option, Result, ◌==◌, nat_lt}
 use Rattle.std.specs.List.{list_all}
 use Rattle.base.specs.Areas.{written_at}
 use Rattle.base.specs.Limits.{body_room}
 use Rattle.base.specs.declared.refusal.Refusal.{Refusal}
 use Rattle.wire.specs.Splitting.{cut}
-use Rattle.partials.specs.Joining.{Partial, Outcome, max_partials, is_head_of, answer_of, after_of, bytes_of}
+use Rattle.partials.specs.Joining.{Partial, Outcome, is_head_of, answer_of, after_of, bytes_of}
 use Rattle.partials.specs.declared.head.Joined.{Joined}
 use Rattle.partials.specs.declared.table.row.Row.{Row}
 
@@ -55,13 +55,6 @@ misfit r = nat_lt body_room (sum r.lengths) || nat_lt 3 r.place
 -- each of the four places is one row's
 abbrev pub OwnPlaces : List Row → Type 0
 OwnPlaces rows = (count_by (has_place 0) rows ≡ 1) × (count_by (has_place 1) rows ≡ 1) × (count_by (has_place 2) rows ≡ 1) × (count_by (has_place 3) rows ≡ 1)
-
-pub record Sound (memory : List ℕ) (rows : List Row) (len : ℕ) : Type 0 where
-  pub sized : length memory ≡ max_partials * body_room
-  pub four : length rows ≡ max_partials
-  pub few : len ≤ max_partials
-  pub fitting : count_by misfit rows ≡ 0
-  pub own : OwnPlaces rows
 
 -- A call met an outcome: what it answered, and the partials and the buffer after it.
 pub record Meets (o : Outcome) (ps : List Partial) (was : List ℕ) (r : Result Joined Refusal) (qs : List Partial) (now : List ℕ) : Type 0 where
