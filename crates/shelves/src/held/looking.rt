@@ -23,9 +23,8 @@ pub(crate) fn number_places(rows: &mut [Row<Held>])
     requires { length rows.old ≤ max_places }
     ensures { tidy (length rows.new) rows.new ≡ true }
 {
-    // By an index: what `iter_mut` lends comes back with nothing known of it but its length.
-    for i in 0..rows.len() {
-        rows[i] = Row {
+    for (i, row) in rows.iter_mut().enumerate() {
+        *row = Row {
             number: 0,
             part: Held {
                 count: 0,

@@ -3,7 +3,7 @@ use Rattle.std.proofs.lemmas.List.{length-map}
 use Rattle.base.specs.declared.refusal.Refusal.{Refusal}
 use Rattle.wire.specs.Messages.{split_in, lengths_in, messages_in}
 use Rattle.wire.specs.Splitting.{split_of, Exact}
-use Rattle.wire.specs.declared.splitting.Messages.{Messages}
+use Rattle.wire.specs.declared.messages.Messages.{Messages}
 use Rattle.wire.proofs.Exactly.{table_fits_lem}
 use Rattle.capture.proofs.inspecting.messages_of.Goals as goal
 
