@@ -1,134 +1,121 @@
 -- Reading a word two hexadecimal digits at a time.
-use Rattle.std.proofs.Common.{◌≡◌, ℕ, ◌+◌, ◌*◌, ◌/◌, ◌<◌, ◌≤◌, Bool, true, false, cond, eqb, leb, List, [], ◌∷◌, ◌++◌, length, get_or, take, drop, set, is_some as option_is_some, Some, None, Option, sym, refl, ap, ◌∙◌, append_assoc, append-nil, arith}
-use Rattle.std.proofs.lemmas.List.{at_drop_more, at_drop_all, take_more_set, take_all}
+use Rattle.std.proofs.Common.{◌≡◌, ℕ, zero, suc, ◌+◌, ◌*◌, ◌/◌, ◌%◌, ◌<◌, ◌≤◌, Bool, true, false, cond, ◌&&◌, leb, List, [], ◌∷◌, length, get_or, set, below_more, is_some, Some, None, Option, sym, refl, ap, ◌∙◌, arith}
+use Rattle.std.specs.Bool.{then_some}
+use Rattle.std.specs.List.{list_all}
+use Rattle.std.specs.Simd.{first_chunks}
 use Rattle.std.proofs.lemmas.Bool.Decides.{nat_tests}
+use Rattle.std.proofs.lemmas.Grind.{elements}
+use Rattle.std.proofs.lemmas.List.Recursion.{and_at}
 use Rattle.words.specs.Words.{hex_byte_of, with_byte, hex_of, fitting, size_of}
 
-hex_step : (word : List ℕ) (i : ℕ) → 2 * i + 1 < length word
-    → hex_of (drop (2 * i) word) ≡ with_byte (hex_byte_of (get_or word (2 * i) 0) (get_or word (2 * i + 1) 0)) (hex_of (drop (2 * (i + 1)) word))
-hex_step word i h =
-    let after : 2 * i + 1 + 1 ≡ 2 * (i + 1) = omega arith in
-    at_drop_more hex_of word (2 * i) 0 (omega arith) ∙ at_drop_more (λ t. hex_of (get_or word (2 * i) 0 ∷ t)) word (2 * i + 1) 0 h
-    ∙ ap (λ n. with_byte (hex_byte_of (get_or word (2 * i) 0) (get_or word (2 * i + 1) 0)) (hex_of (drop n word))) after
+-- the byte of a pair of digits, and the pairs of a word
+abbrev pub byte_of : List ℕ → Option ℕ
+byte_of pair = hex_byte_of (get_or pair 0 0) (get_or pair 1 0)
 
-some_byte : (b : Option ℕ) (more : Option (List ℕ)) → option_is_some b ≡ true → option_is_some (with_byte b more) ≡ option_is_some more
-some_byte (Some b) (Some bytes) e = refl
-some_byte (Some b) None e = refl
-some_byte None more e = absurd (let z : true ≡ false = sym e in grind (arith, nat_tests))
+abbrev pub pairs_of : List ℕ → List (List ℕ)
+pairs_of word = first_chunks 2 (length word / 2) word
 
-no_byte : (b : Option ℕ) (more : Option (List ℕ)) → option_is_some b ≡ false → option_is_some (with_byte b more) ≡ false
-no_byte None more e = refl
-no_byte (Some b) more e = absurd (grind (arith, nat_tests))
+some_byte : (b : Option ℕ) (more : Option (List ℕ)) → is_some (with_byte b more) ≡ (is_some b && is_some more)
+some_byte None more = refl
+some_byte (Some b) None = refl
+some_byte (Some b) (Some bytes) = refl
 
-end_test : (n : ℕ) (b : Bool) → (n ≡ 2 * (n / 2) → true ≡ b) → (n ≡ 2 * (n / 2) + 1 → false ≡ b) → eqb n (2 * (n / 2)) ≡ b
-end_test n b even odd = grind (arith, nat_tests)
+and_false : (b : Bool) → (b && false) ≡ false
+and_false true = refl
+and_false false = refl
 
-module _ (word : List ℕ) (i : ℕ) (so_far : option_is_some (hex_of (drop (2 * i) word)) ≡ option_is_some (hex_of word)) where
-  pub hex_more : 2 * i + 1 < length word → option_is_some (hex_byte_of (get_or word (2 * i) 0) (get_or word (2 * i + 1) 0)) ≡ true
-      → option_is_some (hex_of (drop (2 * (i + 1)) word)) ≡ option_is_some (hex_of word)
-  hex_more h e = sym (some_byte _ (hex_of (drop (2 * (i + 1)) word)) e) ∙ sym (ap option_is_some (hex_step word i h)) ∙ so_far
+even : (k : ℕ) (word : List ℕ) → length word ≡ 2 * k → list_all (λ p. is_some (byte_of p)) (first_chunks 2 k word) ≡ is_some (hex_of word)
+even zero [] h = refl
+even zero (a ∷ word) h = absurd (omega arith)
+even (suc k) [] h = absurd (omega arith)
+even (suc k) (a ∷ []) h = absurd (omega arith)
+even (suc k) (a ∷ (b ∷ word)) h =
+    ap (λ t. is_some (hex_byte_of a b) && t) (even k word (omega arith)) ∙ sym (some_byte (hex_byte_of a b) (hex_of word))
 
-  pub hex_bad : 2 * i + 1 < length word → option_is_some (hex_byte_of (get_or word (2 * i) 0) (get_or word (2 * i + 1) 0)) ≡ false → false ≡ option_is_some (hex_of word)
-  hex_bad h e = sym (no_byte _ (hex_of (drop (2 * (i + 1)) word)) e) ∙ sym (ap option_is_some (hex_step word i h)) ∙ so_far
+odd : (k : ℕ) (word : List ℕ) → length word ≡ 2 * k + 1 → is_some (hex_of word) ≡ false
+odd k [] h = absurd (omega arith)
+odd k (a ∷ []) h = refl
+odd zero (a ∷ (b ∷ word)) h = absurd (omega arith)
+odd (suc k) (a ∷ (b ∷ word)) h =
+    some_byte (hex_byte_of a b) (hex_of word) ∙ ap (λ t. is_some (hex_byte_of a b) && t) (odd k word (omega arith)) ∙ and_false (is_some (hex_byte_of a b))
 
-  pub hex_all : length word ≡ 2 * i → true ≡ option_is_some (hex_of word)
-  hex_all h = sym (ap option_is_some (at_drop_all hex_of word (2 * i) (omega arith))) ∙ so_far
+pub hex_even : (word : List ℕ) → length word % 2 ≡ 0 → list_all (λ p. is_some (byte_of p)) (pairs_of word) ≡ is_some (hex_of word)
+hex_even word h = even (length word / 2) word (omega arith)
 
-  pub hex_odd : length word ≡ 2 * i + 1 → false ≡ option_is_some (hex_of word)
-  hex_odd h =
-      sym (ap option_is_some (at_drop_more hex_of word (2 * i) 0 (omega arith) ∙ at_drop_all (λ t. hex_of (get_or word (2 * i) 0 ∷ t)) word (2 * i + 1) (omega arith)))
-      ∙ so_far
+pub hex_odd : (word : List ℕ) → 0 < length word % 2 → is_some (hex_of word) ≡ false
+hex_odd word h = odd (length word / 2) word (omega arith)
 
-  pub hex_end : i ≡ length word / 2 → eqb (length word) (2 * (length word / 2)) ≡ option_is_some (hex_of word)
-  hex_end h = end_test (length word) (option_is_some (hex_of word)) (λ e. hex_all (omega arith)) (λ e. hex_odd (omega arith))
+-- each pair of a hexadecimal word spells a byte
+pub pair_some : (word : List ℕ) (i : ℕ) → is_some (hex_of word) ≡ true → length word % 2 ≡ 0 → i < length (pairs_of word) → is_some (byte_of (get_or (pairs_of word) i [])) ≡ true
+pair_some word i h e l =
+    and_at (list_all (λ p. is_some (byte_of p))) (λ p. is_some (byte_of p)) refl (λ x xs. refl) (pairs_of word) i [] l (hex_even word e ∙ h)
 
--- bytes in front of others
-abbrev pub front : List ℕ → Option (List ℕ) → Option (List ℕ)
-front p None = None
-front p (Some bytes) = Some (p ++ bytes)
+bytes : (k : ℕ) (word out : List ℕ) → length word ≡ 2 * k → length out ≡ k
+    → ((i : ℕ) → i < k → byte_of (get_or (first_chunks 2 k word) i []) ≡ Some (get_or out i 0)) → Some out ≡ hex_of word
+bytes zero [] [] h l each = refl
+bytes zero [] (b ∷ out) h l each = absurd (omega arith)
+bytes zero (a ∷ word) out h l each = absurd (omega arith)
+bytes (suc k) word [] h l each = absurd (omega arith)
+bytes (suc k) [] (c ∷ out) h l each = absurd (omega arith)
+bytes (suc k) (a ∷ []) (c ∷ out) h l each = absurd (omega arith)
+bytes (suc k) (a ∷ (b ∷ word)) (c ∷ out) h l each =
+    ap (λ x. with_byte (Some c) x) (bytes k word out (omega arith) (omega arith) (λ i m. each (suc i) (omega arith)))
+    ∙ ap (λ x. with_byte x (hex_of word)) (sym (each 0 (omega arith)))
 
-pub front_none : (x : Option (List ℕ)) → front [] x ≡ x
-front_none None = refl
-front_none (Some bytes) = refl
+pub hex_bytes : (word out : List ℕ) → length word ≡ 2 * length out → ((i : ℕ) → i < length out → byte_of (get_or (pairs_of word) i []) ≡ Some (get_or out i 0))
+    → Some out ≡ hex_of word
+hex_bytes word out h each =
+    let half : length out ≡ length word / 2 = omega arith in
+    bytes (length word / 2) word out (omega arith) half (λ i m. each i (omega arith))
 
-front_byte : (p : List ℕ) (b : ℕ) (more : Option (List ℕ)) → front p (with_byte (Some b) more) ≡ front (p ++ (b ∷ [])) more
-front_byte p b None = refl
-front_byte p b (Some bytes) = ap Some (sym (append_assoc p (b ∷ []) bytes))
-
-absurd_some : (x : Option (List ℕ)) → option_is_some x ≡ true → x ≡ None → ⊥
-absurd_some None s e = grind (arith, nat_tests)
-absurd_some (Some bytes) s e = let z : ◌≡◌ {A = ℕ} 0 1 = cc in omega arith
-
-module _ (word out : List ℕ) (i : ℕ) (so_far : front (take i out) (hex_of (drop (2 * i) word)) ≡ hex_of word) where
-  pub decode_more : 2 * i + 1 < length word → i < length out → (b : ℕ) → Some b ≡ hex_byte_of (get_or word (2 * i) 0) (get_or word (2 * i + 1) 0)
-      → front (take (i + 1) (set out i b)) (hex_of (drop (2 * (i + 1)) word)) ≡ hex_of word
-  decode_more h k b e =
-      ap (λ p. front p (hex_of (drop (2 * (i + 1)) word))) (take_more_set out i b k) ∙ sym (front_byte (take i out) b (hex_of (drop (2 * (i + 1)) word)))
-      ∙ ap (λ x. front (take i out) (with_byte x (hex_of (drop (2 * (i + 1)) word)))) e ∙ sym (ap (front (take i out)) (hex_step word i h)) ∙ so_far
-
-  pub decode_bad : 2 * i + 1 < length word → option_is_some (hex_of word) ≡ true → None ≡ hex_byte_of (get_or word (2 * i) 0) (get_or word (2 * i + 1) 0) → ⊥
-  decode_bad h s e =
-      let none : None ≡ hex_of word =
-      ap (λ x. front (take i out) (with_byte x (hex_of (drop (2 * (i + 1)) word)))) e ∙ sym (ap (front (take i out)) (hex_step word i h)) ∙ so_far in
-      absurd_some (hex_of word) s (sym none)
-
-  pub decode_all : length out ≡ i → length word ≡ 2 * length out → Some out ≡ hex_of word
-  decode_all h k =
-      sym (ap (front (take i out)) (at_drop_all hex_of word (2 * i) (omega arith)) ∙ ap Some (append-nil (take i out) ∙ take_all i out (omega arith))) ∙ so_far
-
-with_byte_is : (b : Option ℕ) (more : Option (List ℕ)) (bytes : List ℕ) → with_byte b more ≡ Some bytes
-    → ((rest : List ℕ) → more ≡ Some rest → length bytes ≡ 1 + length rest) × (option_is_some more ≡ true)
-with_byte_is (Some b) (Some rest) bytes e = (λ r f. let same : bytes ≡ b ∷ r = cc in let long = ap length same in omega arith, refl)
-with_byte_is (Some b) None bytes e = absurd (absurd_some (Some bytes) refl (sym e))
-with_byte_is None more bytes e = absurd (absurd_some (Some bytes) refl (sym e))
+-- one more byte of an area is what f says
+pub said_more : (f : ℕ → Option ℕ) (out : List ℕ) (i b : ℕ) → i < length out → ((k : ℕ) → k < i → f k ≡ Some (get_or out k 0)) → f i ≡ Some b
+    → (k : ℕ) → k < i + 1 → f k ≡ Some (get_or (set out i b) k 0)
+said_more f out i b l each e =
+    below_more (λ k. f k ≡ Some (get_or (set out i b) k 0)) i (λ k h. let same = each k h in grind (arith, elements)) (grind (arith, elements))
 
 -- two digits to a byte
-hex_length : (word bytes : List ℕ) → hex_of word ≡ Some bytes → length word ≡ 2 * length bytes
-hex_length [] bytes e = let none : bytes ≡ [] = cc in let long = ap length none in omega arith
-hex_length (a ∷ []) bytes e = absurd (absurd_some (Some bytes) refl (sym e))
-hex_length (a ∷ (b ∷ word)) bytes e =
-    elim (hex_of word) as (λ x. hex_of word ≡ x → length (a ∷ (b ∷ word)) ≡ 2 * length bytes) [
-      | Some rest ↦ λ f. let tail = hex_length word rest f in let one = (with_byte_is (hex_byte_of a b) (hex_of word) bytes e).0 rest f in omega arith
-      | None ↦ λ f. absurd (absurd_some (hex_of word) (with_byte_is (hex_byte_of a b) (hex_of word) bytes e).1 f)
-    ] refl
+added : (b : Option ℕ) (more : Option (List ℕ)) (l : List ℕ) → with_byte b more ≡ Some l → (rest : List ℕ) × (more ≡ Some rest) × (length l ≡ 1 + length rest)
+added (Some b) (Some rest) l e = (rest, refl, let same : l ≡ b ∷ rest = cc in let long = ap length same in omega arith)
+added (Some b) None l e = absurd (let z : ◌≡◌ {A = ℕ} 0 1 = cc in omega arith)
+added None more l e = absurd (let z : ◌≡◌ {A = ℕ} 0 1 = cc in omega arith)
 
-is_some : (x : Option (List ℕ)) → option_is_some x ≡ true → (bytes : List ℕ) × (x ≡ Some bytes)
-is_some (Some bytes) e = (bytes, refl)
-is_some None e = absurd (absurd_some None e refl)
+hex_length : (word l : List ℕ) → hex_of word ≡ Some l → length word ≡ 2 * length l
+hex_length [] l e = let none : l ≡ [] = cc in let long = ap length none in omega arith
+hex_length (a ∷ []) l e = absurd (let z : ◌≡◌ {A = ℕ} 0 1 = cc in omega arith)
+hex_length (a ∷ (b ∷ word)) l e = let s = added (hex_byte_of a b) (hex_of word) l e in let more = hex_length word s.0 s.1 in omega (arith, s.2)
 
-pub hex_even : (word : List ℕ) → option_is_some (hex_of word) ≡ true → length word ≡ 2 * (length word / 2)
-hex_even word e = let s = is_some (hex_of word) e in let long = hex_length word s.0 s.1 in omega arith
+sized : (n : ℕ) (x : Option (List ℕ)) → ((l : List ℕ) → x ≡ Some l → n ≡ 2 * length l) → then_some (is_some x) (n / 2) ≡ size_of x
+sized n None h = refl
+sized n (Some l) h = let k = h l refl in let half : n / 2 ≡ length l = omega arith in ap Some half
 
-fits : (m n : ℕ) (bytes : List ℕ) → m ≤ n → cond (leb m n) (Some bytes) None ≡ Some bytes
-fits m n bytes h = grind (arith, nat_tests)
+pub hex_sized : (word : List ℕ) → then_some (is_some (hex_of word)) (length word / 2) ≡ size_of (hex_of word)
+hex_sized word = sized (length word) (hex_of word) (hex_length word)
 
-fits_not : (m n : ℕ) (bytes : List ℕ) → n < m → cond (leb m n) (Some bytes) None ≡ None
-fits_not m n bytes h = grind (arith, nat_tests)
+some_sized : (n : ℕ) (x : Option (List ℕ)) → Some n ≡ size_of x → (l : List ℕ) × (x ≡ Some l) × (length l ≡ n)
+some_sized n None e = absurd (let z : ◌≡◌ {A = ℕ} 0 1 = cc in omega arith)
+some_sized n (Some l) e = (l, refl, cc)
 
-pub fitting-other : (room : ℕ) (word : List ℕ) → option_is_some (hex_of word) ≡ false → fitting room (hex_of word) ≡ None
+pub hex_some : (word : List ℕ) (n : ℕ) → Some n ≡ size_of (hex_of word) → (is_some (hex_of word) ≡ true) × (length word ≡ 2 * n)
+hex_some word n e = let s = some_sized n (hex_of word) e in (ap is_some s.1, omega (arith, hex_length word s.0 s.1, s.2))
+
+-- the bytes of a word in an area
+fits : (m n : ℕ) (l : List ℕ) → m ≤ n → cond (leb m n) (Some l) None ≡ Some l
+fits m n l h = grind (arith, nat_tests)
+
+fits_not : (m n : ℕ) (l : List ℕ) → n < m → cond (leb m n) (Some l) None ≡ None
+fits_not m n l h = grind (arith, nat_tests)
+
+pub fitting-other : (room : ℕ) (word : List ℕ) → None ≡ size_of (hex_of word) → fitting room (hex_of word) ≡ None
 fitting-other room word e = other (hex_of word) e
   where
-    other : (x : Option (List ℕ)) → option_is_some x ≡ false → fitting room x ≡ None
+    other : (x : Option (List ℕ)) → None ≡ size_of x → fitting room x ≡ None
     other None e = refl
-    other (Some bytes) e = absurd (grind (arith, nat_tests))
+    other (Some l) e = absurd (let z : ◌≡◌ {A = ℕ} 0 1 = cc in omega arith)
 
-pub fitting-long : (room : ℕ) (word : List ℕ) → room < length word / 2 → fitting room (hex_of word) ≡ None
-fitting-long room word h =
-    elim (hex_of word) as (λ x. hex_of word ≡ x → fitting room x ≡ None)
-    [ None ↦ λ e. refl | Some bytes ↦ λ e. fits_not (length bytes) room bytes (let long = hex_length word bytes e in omega arith) ] refl
+pub fitting-long : (room n : ℕ) (word : List ℕ) → Some n ≡ size_of (hex_of word) → room < n → fitting room (hex_of word) ≡ None
+fitting-long room n word e h =
+    let s = some_sized n (hex_of word) e in ap (fitting room) s.1 ∙ fits_not (length s.0) room s.0 (omega (arith, s.2))
 
-pub fitting-bytes : (room : ℕ) (word bytes : List ℕ) → Some bytes ≡ hex_of word → length bytes ≤ room → fitting room (hex_of word) ≡ Some bytes
-fitting-bytes room word bytes e h = ap (fitting room) (sym e) ∙ fits (length bytes) room bytes h
-
-pub size-other : (word : List ℕ) → option_is_some (hex_of word) ≡ false → None ≡ size_of (hex_of word)
-size-other word e = other (hex_of word) e
-  where
-    other : (x : Option (List ℕ)) → option_is_some x ≡ false → None ≡ size_of x
-    other None e = refl
-    other (Some bytes) e = absurd (grind (arith, nat_tests))
-
-pub size-half : (word : List ℕ) → option_is_some (hex_of word) ≡ true → Some (length word / 2) ≡ size_of (hex_of word)
-size-half word e =
-    let s = is_some (hex_of word) e in
-    let half : length word / 2 ≡ length s.0 = let long = hex_length word s.0 s.1 in omega arith in
-    ap Some half ∙ sym (ap size_of s.1)
+pub fitting-bytes : (room : ℕ) (word l : List ℕ) → Some l ≡ hex_of word → length l ≤ room → fitting room (hex_of word) ≡ Some l
+fitting-bytes room word l e h = ap (fitting room) (sym e) ∙ fits (length l) room l h

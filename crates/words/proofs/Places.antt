@@ -1,19 +1,11 @@
 -- A search for the first byte that meets a test.
-use Rattle.std.proofs.Common.{◌≡◌, ℕ, ◌+◌, ◌<◌, ◌≤◌, Bool, true, false, cond, List, length, get_or, drop, ap, ◌∙◌, arith}
-use Rattle.std.proofs.lemmas.List.{at_drop_more, at_drop_all}
-use Rattle.words.specs.Words.{before}
+use Rattle.std.proofs.Common.{◌≡◌, ℕ, ◌≤◌, Bool, cond, nat_lt, List, length, Some, None, unwrap_or, arith}
+use Rattle.std.proofs.lemmas.Bool.Decides.{nat_tests}
+use Rattle.std.proofs.lemmas.List.Sums.{prefix_len-le-length}
+use Rattle.std.specs.List.{position, position_or_len}
 
-module _ (meets : ℕ → Bool) (xs : List ℕ) (i : ℕ) (so_far : i + before meets (drop i xs) ≡ before meets xs) where
-  one_more : i < length xs → before meets (drop i xs) ≡ cond (meets (get_or xs i 0)) 0 (1 + before meets (drop (i + 1) xs))
-  one_more h = at_drop_more (before meets) xs i 0 h
+or_all : (n all : ℕ) → n ≤ all → unwrap_or (cond (nat_lt n all) (Some n) None) all ≡ n
+or_all n all h = grind (arith, nat_tests)
 
-  pub before-met : i < length xs → meets (get_or xs i 0) ≡ true → i ≡ before meets xs
-  before-met h e =
-      let turn = one_more h ∙ ap (λ b. cond b 0 (1 + before meets (drop (i + 1) xs))) e in omega arith
-
-  pub before_more : i < length xs → meets (get_or xs i 0) ≡ false → i + 1 + before meets (drop (i + 1) xs) ≡ before meets xs
-  before_more h e =
-      let turn = one_more h ∙ ap (λ b. cond b 0 (1 + before meets (drop (i + 1) xs))) e in omega arith
-
-  pub before-all : length xs ≤ i → i ≡ before meets xs
-  before-all h = let end = at_drop_all (before meets) xs i h in omega arith
+pub place_from_position : (meets : ℕ → Bool) (xs : List ℕ) → unwrap_or (position meets xs) (length xs) ≡ position_or_len meets xs
+place_from_position meets xs = or_all (position_or_len meets xs) (length xs) (prefix_len-le-length _ xs)

@@ -1,16 +1,13 @@
 -- Lines, words, numbers and hexadecimal bytes in a text.
-use Rattle.std.specs.Prelude.{ℕ, ◌+◌, ◌-◌, ◌*◌, ◌^◌, Bool, cond, not, ◌&&◌, List, [], ◌∷◌, ◌++◌, length, take, drop, Some, None, Option, ◌==◌, nat_eq, nat_le, nat_lt}
+use Rattle.std.specs.List.{position_or_len}
+use Rattle.std.specs.Prelude.{ℕ, ◌+◌, ◌-◌, ◌*◌, ◌^◌, Bool, cond, not, ◌&&◌, List, [], ◌∷◌, ◌++◌, length, take, drop, Some, None, Option, ◌==◌, nat_le, nat_lt}
 
--- the number of bytes before the first that meets a test, or of all where none does
-abbrev pub before : (ℕ → Bool) → List ℕ → ℕ
-before meets [] = 0
-before meets (b ∷ bs) = cond (meets b) 0 (1 + before meets bs)
-
+-- the number of bytes before the first `stop`, or of all where there is none
 abbrev pub place_of : ℕ → List ℕ → ℕ
-place_of stop = before (λ b. nat_eq b stop)
+place_of stop = position_or_len (λ b. b == stop)
 
 abbrev pub spaces_of : List ℕ → ℕ
-spaces_of = before (λ b. not (b == 32))
+spaces_of = position_or_len (λ b. not (b == 32))
 
 -- The first line without its newline, and what follows that.
 abbrev pub line_of : List ℕ → List ℕ

@@ -9,38 +9,14 @@ fn place_of(stop: u8, bytes: &[u8]) -> usize
     ensures place { result ≡ place_of stop bytes.now }
     ensures within { result ≤ length bytes.now }
 {
-    for (i, b) in bytes.iter().enumerate() {
-        if *b == stop {
-            return i;
-        }
-    }
-    bytes.len()
+    bytes.iter().position(|b| *b == stop).unwrap_or(bytes.len())
 }
 
 fn spaces_of(bytes: &[u8]) -> usize
     ensures spaces { result ≡ spaces_of bytes.now }
     ensures within { result ≤ length bytes.now }
 {
-    for (i, b) in bytes.iter().enumerate() {
-        if *b != b' ' {
-            return i;
-        }
-    }
-    bytes.len()
-}
-
-fn line_end(text: &[u8]) -> usize
-    ensures place { result ≡ place_of 10 text.now }
-    ensures within { result ≤ length text.now }
-{
-    place_of(b'\n', text)
-}
-
-fn word_end(line: &[u8]) -> usize
-    ensures place { result ≡ place_of 32 line.now }
-    ensures within { result ≤ length line.now }
-{
-    place_of(b' ', line)
+    bytes.iter().position(|b| *b != b' ').unwrap_or(bytes.len())
 }
 
 /// The first line of a text without its newline, and what follows that.
@@ -48,7 +24,7 @@ pub fn split_line(text: &[u8]) -> (&[u8], &[u8])
     ensures line { result.0.now ≡ line_of text.now }
     ensures rest { result.1.now ≡ after_line text.now }
 {
-    let end = line_end(text);
+    let end = place_of(b'\n', text);
     if end == text.len() {
         return (text, &[]);
     }
@@ -62,7 +38,7 @@ pub fn split_word(line: &[u8]) -> (&[u8], &[u8])
 {
     let start = spaces_of(line);
     let trimmed = &line[start..];
-    trimmed.split_at(word_end(trimmed))
+    trimmed.split_at(place_of(b' ', trimmed))
 }
 
 fn digit(b: u8) -> Option<u8>
@@ -114,33 +90,21 @@ fn hex_byte(high: u8, low: u8) -> Option<u8>
     Some(hex_digit(high)? * 16 + hex_digit(low)?)
 }
 
-// Two digits spell a byte.
-fn half(word: &[u8]) -> usize
-    ensures { result ≡ length word.now / 2 }
-{
-    word.len() / 2
-}
-
 fn is_hex(word: &[u8]) -> bool
     ensures { result ≡ is_some (hex_of word.now) }
 {
-    let size = half(word);
-    for i in 0..size {
-        if hex_byte(word[2 * i], word[2 * i + 1]).is_none() {
-            return false;
-        }
-    }
-    word.len() == 2 * size
+    let (pairs, rest) = word.as_chunks::<2>();
+    rest.is_empty()
+        && pairs
+            .iter()
+            .all(|[high, low]| hex_byte(*high, *low).is_some())
 }
 
 /// How many bytes a word spells in hexadecimal. None where it is no such.
 pub fn hex_size(word: &[u8]) -> Option<usize>
     ensures { result ≡ size_of (hex_of word.now) }
 {
-    if !is_hex(word) {
-        return None;
-    }
-    Some(half(word))
+    is_hex(word).then_some(word.len() / 2)
 }
 
 // Writes the bytes of a hexadecimal word into an area of their size.
@@ -149,11 +113,10 @@ fn decode(word: &[u8], out: &mut [u8])
     requires size { length word.now ≡ 2 * length out.old }
     ensures { Some out.new ≡ hex_of word.now }
 {
-    for i in 0..out.len() {
-        let Some(byte) = hex_byte(word[2 * i], word[2 * i + 1]) else {
-            unreachable()
-        };
-        out[i] = byte;
+    let (pairs, _) = word.as_chunks::<2>();
+    for (i, byte) in out.iter_mut().enumerate() {
+        let [high, low] = pairs[i];
+        *byte = hex_byte(high, low).unwrap();
     }
 }
 
@@ -163,8 +126,8 @@ pub fn hex_into(word: &[u8], out: &mut [u8]) -> Option<usize>
     ensures size { result ≡ size_of (fitting (length out.old) (hex_of word.now)) }
     ensures after { out.new ≡ over_front out.old (fitting (length out.old) (hex_of word.now)) }
 {
-    let size = half(word);
-    if size > out.len() || !is_hex(word) {
+    let size = hex_size(word)?;
+    if size > out.len() {
         return None;
     }
     decode(word, &mut out[..size]);

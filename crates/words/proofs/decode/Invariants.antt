@@ -1,7 +1,6 @@
-use Rattle.std.proofs.Common.{◌≡◌, ◌*◌, take, drop}
-use Rattle.words.specs.Words.{hex_of}
-use Rattle.words.proofs.Hexes.{front}
+use Rattle.std.proofs.Common.{◌≡◌, ℕ, ◌<◌, [], get_or, Some}
+use Rattle.words.proofs.Hexes.{byte_of}
 use Rattle.words.proofs.decode.Given as goal
 
 abbrev pub invariant-loop-i : goal.invariant-loop-i
-invariant-loop-i l = front (take l.i l.out) (hex_of (drop (2 * l.i) l.word)) ≡ hex_of l.word
+invariant-loop-i l = (k : ℕ) → k < l.i → byte_of (get_or l.pairs k []) ≡ Some (get_or l.out k 0)

@@ -1,9 +1,9 @@
-use Rattle.std.proofs.Common.{rules}
-use Rattle.words.proofs.Hexes.{size-other, size-half}
+use Rattle.std.proofs.Common.{◌/◌, length, ap, ◌∙◌}
+use Rattle.std.specs.Bool.{then_some}
+use Rattle.words.proofs.Hexes.{hex_sized}
 use Rattle.words.proofs.hex_size.Goals as goal
 
-pub returns-then-not-is_hex : goal.returns-then-not-is_hex
-returns-then-not-is_hex c = search (rules, size-other)
-
 pub returns : goal.returns
-returns c = search (rules, size-half)
+returns c =
+    let word = c.args.word.now in
+    c.then_some.ensures ∙ ap (λ b. then_some b (length word / 2)) c.is_hex.ensures ∙ hex_sized word
