@@ -1,7 +1,8 @@
 -- Parts at the front of an area.
 use Rattle.std.proofs.Common.{◌≡◌, ℕ, ◌+◌, ◌≤◌, Bool, true, false, cond, leb, List, [], ◌∷◌, ◌++◌, length, take, drop, Some, None, Option, sym, refl, ap, ◌∙◌, append_assoc, append-nil, zero-add, arith, length-append, length-drop, leb-true}
-use Rattle.std.proofs.lemmas.List.{take_at, drop_all}
+use Rattle.std.proofs.lemmas.List.{take_at}
 use borrow.Rule.Slice.PartMut.{put_mid}
+use Rattle.std.proofs.Math.Seq.{drop-append-add}
 use Rattle.base.specs.Areas.{written_at}
 use Rattle.base.proofs.Areas.{put_mid-written}
 use Rattle.words.specs.Words.{fitting}
@@ -61,13 +62,17 @@ module _ (out head d one two : List ℕ) (start : ℕ) (r : Option ℕ)
       ∙ front_by b (start + length d) one (head ++ d) (drop (start + length d) one) size
       ∙ ap (λ n. sized (cond (leb n (length one)) (Some (head ++ d)) None)) (sym size) ∙ ap (λ n. sized (cond (leb (length (head ++ d)) n) (Some (head ++ d)) None)) one-length
 
+-- a part written behind others, where zeros stood
+pub part_behind : (done zeros part : List ℕ) (at n : ℕ) → length done ≡ at → length part ≡ n → put_mid at n (done ++ zeros) part ≡ (done ++ part) ++ drop n zeros
+part_behind done zeros part at n h l =
+    let area = done ++ zeros in
+    put_mid-written at n area part part refl l
+    ∙ ap (λ t. t ++ (part ++ drop (at + length part) area)) (take_at done zeros at h)
+    ∙ ap (λ t. done ++ (part ++ t)) (ap (λ k. drop (k + length part) area) (sym h) ∙ drop-append-add done zeros (length part) ∙ ap (λ k. drop k zeros) l)
+    ∙ sym (append_assoc done part (drop n zeros))
+
 -- a head and its trailer, in an array of 24 bytes
 pub head-and_trailer : (head trailer a b : List ℕ) → a ≡ head → length head ≡ 20 → b ≡ trailer → length trailer ≡ 4
     → put_mid 20 4 (a ++ (0 ∷ (0 ∷ (0 ∷ (0 ∷ []))))) b ≡ head ++ trailer
 head-and_trailer head trailer a b e l f m =
-    let area = a ++ (0 ∷ (0 ∷ (0 ∷ (0 ∷ [])))) in
-    let long : length a ≡ 20 = ap length e ∙ l in
-    let none : length area ≤ 20 + length trailer = simp length-append (omega arith) in
-    put_mid-written 20 4 area b trailer f m
-    ∙ ap (λ t. t ++ (trailer ++ drop (20 + length trailer) area)) (take_at a (0 ∷ (0 ∷ (0 ∷ (0 ∷ [])))) 20 long ∙ e)
-    ∙ ap (λ t. head ++ (trailer ++ t)) (drop_all (20 + length trailer) area none) ∙ ap (λ t. head ++ t) (append-nil trailer)
+    part_behind a (0 ∷ (0 ∷ (0 ∷ (0 ∷ [])))) b 20 4 (ap length e ∙ l) (ap length f ∙ m) ∙ append-nil (a ++ b) ∙ ap (λ t. t ++ b) e ∙ ap (λ t. head ++ t) f

@@ -1,7 +1,6 @@
 pub mod Areas
 pub mod Fronts
 pub mod Hexes
-pub mod Lists
 pub mod Loops
 pub mod Messages
 pub mod Packs

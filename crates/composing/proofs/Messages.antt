@@ -1,8 +1,7 @@
 -- The messages of a data line.
-use Rattle.std.proofs.Common.{◌≡◌, ℕ, ◌<◌, ◌≤◌, Bool, true, false, cond, ◌&&◌, eqb, leb, List, [], ◌∷◌, length, take, drop, Some, None, codes, Option, sym, refl, ap, ◌∙◌, arith}
+use Rattle.std.proofs.Common.{◌≡◌, ℕ, ◌<◌, ◌≤◌, cond, leb, List, [], ◌∷◌, length, get_or, drop, Some, None, Option, sym, refl, ap, ◌∙◌, arith}
 use Rattle.std.proofs.lemmas.List.{take_at}
 use Rattle.std.proofs.lemmas.Bool.Decides.{nat_tests}
-use Rattle.std.specs.Str.{bytes_eq}
 use Rattle.base.specs.Fields.{be_bytes}
 use Rattle.base.specs.Limits.{max_message}
 use Rattle.words.specs.Words.{hex_of, fitting, size_of, over_front}
@@ -10,30 +9,11 @@ use Rattle.composing.specs.Composing.{front_in, sized, mapped}
 use Rattle.composing.specs.Data.{message_of, part_of}
 use Rattle.composing.specs.declared.data.Part.TheVariants.{Size}
 
-and_false : (b : Bool) → (b && false) ≡ false
-and_false true = refl
-and_false false = refl
-
-chosen : (t x : Bool) (a b : Option (List ℕ)) → (t ≡ true → cond t a (cond x b None) ≡ a) × (t ≡ false → x ≡ true → cond t a (cond x b None) ≡ b)
-    × (t ≡ false → x ≡ false → cond t a (cond x b None) ≡ None)
-chosen t x a b = (λ e. ap (λ v. cond v a (cond x b None)) e, λ e f. ap (λ v. cond v a (cond x b None)) e ∙ ap (λ v. cond v b None) f, λ e f. ap (λ v. cond v a (cond x b None)) e ∙ ap (λ v. cond v b None) f)
-
-pub message_text : (word : List ℕ) → bytes_eq (take 2 word) (codes "t:") ≡ true → message_of word ≡ Some (drop 2 word)
+pub message_hex : (word : List ℕ) → 2 ≤ length word → get_or word 0 0 ≡ 120 → get_or word 1 0 ≡ 58 → message_of word ≡ hex_of (drop 2 word)
 unfolding message_of
-message_text word = (chosen (bytes_eq (take 2 word) (codes "t:")) (bytes_eq (take 2 word) (codes "x:")) (Some (drop 2 word)) (hex_of (drop 2 word))).0
-
-pub message_hex : (word : List ℕ) → bytes_eq (take 2 word) (codes "t:") ≡ false → bytes_eq (take 2 word) (codes "x:") ≡ true → message_of word ≡ hex_of (drop 2 word)
-unfolding message_of
-message_hex word = (chosen (bytes_eq (take 2 word) (codes "t:")) (bytes_eq (take 2 word) (codes "x:")) (Some (drop 2 word)) (hex_of (drop 2 word))).1
-
-pub message_none : (word : List ℕ) → bytes_eq (take 2 word) (codes "t:") ≡ false → bytes_eq (take 2 word) (codes "x:") ≡ false → message_of word ≡ None
-unfolding message_of
-message_none word = (chosen (bytes_eq (take 2 word) (codes "t:")) (bytes_eq (take 2 word) (codes "x:")) (Some (drop 2 word)) (hex_of (drop 2 word))).2
-
-pub message_short : (word : List ℕ) → length word < 2 → message_of word ≡ None
-message_short [] h = message_none [] refl refl
-message_short (a ∷ []) h = message_none (a ∷ []) (and_false (eqb a 116)) (and_false (eqb a 120))
-message_short (a ∷ (b ∷ word)) h = absurd (omega arith)
+message_hex [] h e f = absurd (omega arith)
+message_hex (a ∷ []) h e f = absurd (omega arith)
+message_hex (a ∷ (b ∷ word)) h e f = ap (λ x. message_of (x ∷ (b ∷ word))) e ∙ ap (λ y. message_of (120 ∷ (y ∷ word))) f
 
 pub front_over : (x : Option (List ℕ)) (area exit : List ℕ) (r : Option ℕ) → r ≡ size_of x → exit ≡ over_front area x → front_in r exit ≡ sized x
 front_over x area exit r e f = ap (λ y. front_in y exit) e ∙ ap (front_in (size_of x)) f ∙ over x

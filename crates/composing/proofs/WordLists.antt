@@ -1,47 +1,13 @@
 -- The loop over the words of a line.
-use Rattle.std.proofs.Common.{◌≡◌, ℕ, zero, suc, ◌+◌, ◌-◌, ◌<◌, ◌≤◌, true, false, cond, leb, List, [], ◌∷◌, ◌++◌, length, take, Some, None, Option, sym, refl, ap, ◌∙◌, append_assoc, append-nil, arith, length-append, length-drop, length-take, eq-eqb, ne_eqb}
-use borrow.Author.Tests.{eqb-false}
+use Rattle.std.proofs.Common.{◌≡◌, ℕ, ◌+◌, ◌-◌, ◌<◌, ◌≤◌, true, false, cond, leb, List, [], ◌∷◌, ◌++◌, length, take, Some, None, Option, sym, refl, ap, ◌∙◌, append_assoc, append-nil, arith, length-append}
 use borrow.Rule.Slice.PartMut.{put_mid}
-use Rattle.std.proofs.lemmas.List.{length-take-le, nil_from_length}
+use Rattle.std.proofs.lemmas.List.{length-take-le}
 use Rattle.std.proofs.lemmas.Bool.Decides.{nat_tests}
-use Rattle.words.specs.Words.{place_of, trimmed, spaces_of, word_of, after_word, fitting}
-use Rattle.composing.specs.Composing.{is_blank, sized}
-use Rattle.composing.specs.Data.{words_from, words_of, part_of, joined, all_of}
+use Rattle.words.specs.Words.{fitting}
+use Rattle.composing.specs.Composing.{sized}
+use Rattle.composing.specs.Data.{part_of, joined, all_of}
 use Rattle.composing.specs.declared.data.Part.{Part}
 use Rattle.composing.proofs.Loops.{sized-none, sized-some, fitting-within, grown}
-
--- a word takes at least a byte
-pub word_takes : (line : List ℕ) → is_blank line ≡ false → length (after_word line) < length line
-word_takes line e =
-    let some = eqb-false (length (word_of line)) 0 e in
-    let word = length-take (place_of 32 (trimmed line)) (trimmed line) in
-    let after = length-drop (place_of 32 (trimmed line)) (trimmed line) in
-    let before = length-drop (spaces_of line) line in
-    grind arith
-
-words_same : (n m : ℕ) (line : List ℕ) → length line ≤ n → length line ≤ m → words_from n line ≡ words_from m line
-unfolding words_from
-words_same zero zero line h k = refl
-words_same zero (suc m) line h k = sym (ap (words_from (suc m)) (nil_from_length line (omega arith)))
-words_same (suc n) zero line h k = ap (words_from (suc n)) (nil_from_length line (omega arith))
-words_same (suc n) (suc m) line h k =
-    elim (is_blank line) as (λ b. is_blank line ≡ b → cond b [] (word_of line ∷ words_from n (after_word line)) ≡ cond b [] (word_of line ∷ words_from m (after_word line))) [
-      | true ↦ λ e. refl
-      | false ↦ λ e. let less = word_takes line e in ap (λ l. word_of line ∷ l) (words_same n m (after_word line) (omega arith) (omega arith))
-    ] refl
-
-words_by : (n : ℕ) (line : List ℕ) → length line ≤ n → words_of line ≡ cond (is_blank line) [] (word_of line ∷ words_from n (after_word line))
-unfolding words_from
-words_by n line h = words_same (length line) (suc n) line (omega arith) (omega arith)
-
-words_none : (line : List ℕ) → is_blank line ≡ true → words_of line ≡ []
-words_none line e = words_by (length line) line (omega arith) ∙ ap (λ b. cond b [] (word_of line ∷ words_from (length line) (after_word line))) e
-
-words_more : (line : List ℕ) → is_blank line ≡ false → words_of line ≡ word_of line ∷ words_of (after_word line)
-words_more line e =
-    let less = word_takes line e in
-    words_by (length line) line (omega arith) ∙ ap (λ b. cond b [] (word_of line ∷ words_from (length line) (after_word line))) e
-    ∙ ap (λ l. word_of line ∷ l) (words_same (length line) (length (after_word line)) (after_word line) (omega arith) (omega arith))
 
 -- bytes so far, in front of what is left
 pub joined-nil : (x : Option (List ℕ)) → joined (Some []) x ≡ x
@@ -76,34 +42,25 @@ no_fit room less done (Some l) (Some bytes) h e =
     length-append done (l ++ bytes) ∙ ap (λ n. length done + n) (length-append l bytes) in
     sym (fits_not (length (done ++ (l ++ bytes))) room (done ++ (l ++ bytes)) (omega arith))
 
-blank-is : (line word : List ℕ) → word ≡ word_of line → length word ≡ 0 → is_blank line ≡ true
-blank-is line word e h = eq-eqb (length (word_of line)) 0 (sym (ap length e) ∙ h)
-
-pub word_is : (line word : List ℕ) → word ≡ word_of line → 0 < length word → is_blank line ≡ false
-word_is line word e h = ne_eqb (length (word_of line)) 0 (λ z. let long = ap length e in omega arith)
-
-module _ (part : Part) (room at : ℕ) (area rest word : List ℕ) (whole : Option (List ℕ))
-    (so_far : joined (Some (take at area)) (all_of part (words_of rest)) ≡ whole) (long : length area ≡ room) (within : at ≤ room) (e : word ≡ word_of rest) where
+module _ (part : Part) (room at : ℕ) (area : List ℕ) (words : List (List ℕ)) (whole : Option (List ℕ))
+    (so_far : joined (Some (take at area)) (all_of part words) ≡ whole) (long : length area ≡ room) (within : at ≤ room) where
   done-long : length (take at area) ≡ at
   done-long = length-take-le at area (omega arith)
 
-  pub words_all : length word ≡ 0 → Some (at, take at area) ≡ sized (fitting room whole)
-  words_all h =
+  pub words_all : words ≡ [] → Some (at, take at area) ≡ sized (fitting room whole)
+  words_all e =
       let is : whole ≡ Some (take at area) =
-      sym so_far ∙ ap (λ l. joined (Some (take at area)) (all_of part l)) (words_none rest (blank-is rest word e h)) ∙ ap Some (append-nil (take at area)) in
+      sym so_far ∙ ap (λ l. joined (Some (take at area)) (all_of part l)) e ∙ ap Some (append-nil (take at area)) in
       ap (λ n. Some (n, take at area)) (sym done-long)
       ∙ sym (ap sized (ap (fitting room) is ∙ fits (length (take at area)) room (take at area) (omega (arith, done-long))))
 
-  module _ (more : List ℕ) (f : more ≡ after_word rest) (out : List ℕ) (less : length out ≡ room - at) (some : 0 < length word) where
-    turn : joined (Some (take at area)) (joined (part_of part word) (all_of part (words_of more))) ≡ whole
-    turn =
-        ap (λ l. joined (Some (take at area)) (joined (part_of part l) (all_of part (words_of more)))) e
-        ∙ ap (λ l. joined (Some (take at area)) (joined (part_of part (word_of rest)) (all_of part (words_of l)))) f
-        ∙ sym (ap (λ l. joined (Some (take at area)) (all_of part l)) (words_more rest (word_is rest word e some))) ∙ so_far
+  module _ (word : List ℕ) (more : List (List ℕ)) (e : words ≡ word ∷ more) (out : List ℕ) (less : length out ≡ room - at) where
+    turn : joined (Some (take at area)) (joined (part_of part word) (all_of part more)) ≡ whole
+    turn = ap (λ l. joined (Some (take at area)) (all_of part l)) (sym e) ∙ so_far
 
     pub word_bad : None ≡ sized (fitting (length out) (part_of part word)) → None ≡ sized (fitting room whole)
     word_bad n =
-        ap sized (no_fit room (length out) (take at area) (part_of part word) (all_of part (words_of more)) (omega (arith, done-long))
+        ap sized (no_fit room (length out) (take at area) (part_of part word) (all_of part more) (omega (arith, done-long))
         (sized-none (fitting (length out) (part_of part word)) n) ∙ ap (fitting room) turn)
 
     module _ (size : ℕ) (exit : List ℕ) (put : Some (size, take size exit) ≡ sized (fitting (length out) (part_of part word))) where
@@ -113,17 +70,14 @@ module _ (part : Part) (room at : ℕ) (area rest word : List ℕ) (whole : Opti
           omega (arith, fitting-within (length out) (part_of part word) (take size exit) s.0, s.1)
 
       pub word_more : length exit ≡ length area - at
-          → joined (Some (take (at + size) (put_mid at (length area - at) area exit))) (all_of part (words_of more)) ≡ whole
+          → joined (Some (take (at + size) (put_mid at (length area - at) area exit))) (all_of part more) ≡ whole
       word_more l =
           let s = sized-some (fitting (length out) (part_of part word)) size (take size exit) put in
           let k = word_within in
-          ap (λ d. joined (Some d) (all_of part (words_of more))) (grown area exit at size (omega arith) l (omega arith))
-          ∙ sym (joined-assoc (take at area) (take size exit) (all_of part (words_of more)))
-          ∙ sym (ap (λ x. joined (Some (take at area)) (joined x (all_of part (words_of more)))) (is_fit (length out) (part_of part word) (take size exit) s.0))
+          ap (λ d. joined (Some d) (all_of part more)) (grown area exit at (length area - at) size (omega arith) l (omega arith))
+          ∙ sym (joined-assoc (take at area) (take size exit) (all_of part more))
+          ∙ sym (ap (λ x. joined (Some (take at area)) (joined x (all_of part more))) (is_fit (length out) (part_of part word) (take size exit) s.0))
           ∙ turn
-
-pub words_shorter : (line word more : List ℕ) → word ≡ word_of line → more ≡ after_word line → 0 < length word → length more < length line
-words_shorter line word more e f h = let less = word_takes line (word_is line word e h) in let same = ap length f in omega arith
 
 -- two runs of parts, one behind the other
 pub plain_none : (room : ℕ) (x y : Option (List ℕ)) → None ≡ sized (fitting room x) → None ≡ sized (fitting room (joined x y))
@@ -157,14 +111,6 @@ module _ (room sizes : ℕ) (one : List ℕ) (x y : Option (List ℕ)) (first : 
       let k = fitting-within (length out) y (take contents exit) t.0 in
       let all = take sizes one ++ take contents exit in
       let size : length all ≡ sizes + contents = omega (arith, length-append (take sizes one) (take contents exit), s.1, t.1) in
-      ap (λ d. Some (sizes + contents, d)) (grown one exit sizes contents (omega (arith, s.2)) l (omega (arith, t.1)))
+      ap (λ d. Some (sizes + contents, d)) (grown one exit sizes (length one - sizes) contents (omega (arith, s.2)) l (omega (arith, t.1)))
       ∙ ap (λ n. Some (n, all)) (sym size) ∙ ap sized (sym (fits (length all) room all (omega (arith, s.2, t.1))))
       ∙ sym (ap (λ v. sized (fitting room (joined v y))) s.0 ∙ ap (λ v. sized (fitting room (joined (Some (take sizes one)) v))) (is_fit (length out) y (take contents exit) t.0))
-
-pub count_none : (line word : List ℕ) → word ≡ word_of line → length word ≡ 0 → length (words_of line) ≡ 0
-count_none line word e h = ap length (words_none line (blank-is line word e h))
-
-pub count-more : (line word more : List ℕ) → word ≡ word_of line → more ≡ after_word line → 0 < length word → length (words_of line) ≡ 1 + length (words_of more)
-count-more line word more e f h =
-    let all = ap length (words_more line (word_is line word e h)) in
-    let same = ap (λ l. length (words_of l)) f in omega arith

@@ -1,13 +1,9 @@
 -- A capture from a text: what each line adds.
-use Rattle.std.specs.Prelude.{ℕ, ◌-◌, ◌^◌, Bool, cond, List, [], ◌∷◌, ◌++◌, length, take, Some, None, Option, ◌==◌, nat_le}
+use Rattle.std.specs.Prelude.{ℕ, ◌-◌, ◌^◌, cond, List, [], ◌∷◌, ◌++◌, length, take, Some, None, Option, nat_le}
 use Rattle.base.specs.Fields.{be_bytes}
 use Rattle.base.specs.Limits.{max_number}
 use Rattle.sending.specs.Packing.{with_trailer}
-use Rattle.words.specs.Words.{word_of, after_word, number_of, hex_of, fitting}
-
--- no word is left on the line
-abbrev pub is_blank : List ℕ → Bool
-is_blank line = length (word_of line) == 0
+use Rattle.words.specs.Words.{word_of, after_word, is_blank, number_of, hex_of, fitting}
 
 -- Fields: a number up to a limit; the last field of a line; the last two.
 abbrev pub up_to : ℕ → Option ℕ → Option ℕ

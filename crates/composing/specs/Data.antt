@@ -1,24 +1,16 @@
 -- A data line: what its datagram is packed from.
-use Rattle.std.specs.Prelude.{ℕ, zero, suc, ◌-◌, ◌^◌, Bool, true, false, cond, List, [], ◌∷◌, ◌++◌, length, take, drop, Some, None, Ok, Err, codes, Option, Result}
+use Rattle.std.specs.Prelude.{ℕ, ◌-◌, ◌^◌, Bool, true, false, cond, List, [], ◌∷◌, ◌++◌, length, take, drop, Some, None, Ok, Err, codes, Option, Result}
 use Rattle.std.specs.Str.{bytes_eq}
 use Rattle.base.specs.Fields.{be_bytes}
 use Rattle.base.specs.Limits.{max_message, body_room}
 use Rattle.base.specs.declared.refusal.Refusal.{Refusal}
-use Rattle.words.specs.Words.{word_of, after_word, number_of, hex_of, fitting}
-use Rattle.composing.specs.Composing.{is_blank, up_to, mapped, datagram_record}
+use Rattle.words.specs.Words.{word_of, after_word, words_of, number_of, hex_of, fitting}
+use Rattle.composing.specs.Composing.{up_to, mapped, datagram_record}
 use Rattle.sending.specs.Packing.{packed_of}
 use Rattle.sending.specs.declared.packing.Packing.{Packing}
 use Rattle.composing.specs.declared.data.Marks.{Marks}
 use Rattle.composing.specs.declared.data.Part.{Part}
 use Rattle.composing.specs.declared.data.Part.TheVariants.{Size, Content}
-
--- The words of a line, at most so many; each takes a byte at least.
-unfoldable pub words_from : ℕ → List ℕ → List (List ℕ)
-words_from zero line = []
-words_from (suc most) line = cond (is_blank line) [] (word_of line ∷ words_from most (after_word line))
-
-abbrev pub words_of : List ℕ → List (List ℕ)
-words_of line = words_from (length line) line
 
 -- A message is t:TEXT, which stands for its bytes, or x:HEX.
 unfoldable pub message_of : List ℕ → Option (List ℕ)

@@ -3,20 +3,10 @@ use Rattle.std.specs.Prelude.{ℕ, ◌+◌, ◌-◌, ◌^◌, Bool, cond, ◌||�
 use Rattle.std.specs.Str.{bytes_eq}
 use Rattle.base.specs.Fields.{be_bytes}
 use Rattle.base.specs.Limits.{max_capture}
-use Rattle.words.specs.Words.{word_of, after_word, fitting}
-use Rattle.composing.specs.Composing.{is_blank, last_two, mapped, judge_of, raw_of, heartbeat_of, stream_of}
+use Rattle.words.specs.Words.{lines_of, word_of, after_word, is_blank, fitting}
+use Rattle.composing.specs.Composing.{last_two, mapped, judge_of, raw_of, heartbeat_of, stream_of}
 use Rattle.composing.specs.Data.{data_of}
-use Rattle.composing.specs.declared.stage.Stage.{Stage}
-use Rattle.composing.specs.declared.stage.Stage.TheVariants.{Fresh, Opened}
-
--- The lines, each without its newline; the last may lack one.
-abbrev pub with_first : ℕ → List (List ℕ) → List (List ℕ)
-with_first b [] = (b ∷ []) ∷ []
-with_first b (line ∷ lines) = (b ∷ line) ∷ lines
-
-abbrev pub lines_of : List ℕ → List (List ℕ)
-lines_of [] = []
-lines_of (b ∷ bs) = cond (b == 10) ([] ∷ lines_of bs) (with_first b (lines_of bs))
+use Rattle.composing.specs.declared.text.BadLine.{BadLine}
 
 -- A line that is left out: it is blank or begins with #.
 unfoldable pub is_idle : List ℕ → Bool
@@ -42,23 +32,20 @@ record_of ready seals channel kind rest =
     (cond (bytes_eq kind (codes "stream-heartbeat")) (stream_of channel 0 rest)
     (cond (bytes_eq kind (codes "stream-end")) (stream_of channel 0xFFFF rest) None)))))
 
-abbrev pub by_stage : (ℕ → Bool) → (ℕ → List ℕ → List ℕ) → Stage → List ℕ → List ℕ → Option (List ℕ)
-by_stage ready seals Fresh kind rest = cond (bytes_eq kind (codes "capture")) (header_of rest) None
-by_stage ready seals (Opened channel) kind rest = record_of ready seals channel kind rest
+-- A stage is the channel of the capture that the lines so far have opened, or None.
+abbrev pub by_stage : (ℕ → Bool) → (ℕ → List ℕ → List ℕ) → Option ℕ → List ℕ → List ℕ → Option (List ℕ)
+by_stage ready seals None kind rest = cond (bytes_eq kind (codes "capture")) (header_of rest) None
+by_stage ready seals (Some channel) kind rest = record_of ready seals channel kind rest
 
-unfoldable pub added_by : (ℕ → Bool) → (ℕ → List ℕ → List ℕ) → Stage → List ℕ → Option (List ℕ)
+unfoldable pub added_by : (ℕ → Bool) → (ℕ → List ℕ → List ℕ) → Option ℕ → List ℕ → Option (List ℕ)
 added_by ready seals stage line = cond (is_idle line) (Some []) (by_stage ready seals stage (word_of line) (after_word line))
 
 -- The stage behind a line that is not bad.
-abbrev pub channel_in : Option (ℕ × ℕ) → ℕ
-channel_in None = 0
-channel_in (Some p) = p.0
+abbrev pub moved_on : Option ℕ → List ℕ → Option ℕ
+moved_on None rest = mapped (λ p. p.0) (opening_of rest)
+moved_on (Some channel) rest = Some channel
 
-abbrev pub moved_on : Stage → List ℕ → Stage
-moved_on Fresh rest = Opened (channel_in (opening_of rest))
-moved_on (Opened channel) rest = Opened channel
-
-unfoldable pub stage_after : Stage → List ℕ → Stage
+unfoldable pub stage_after : Option ℕ → List ℕ → Option ℕ
 stage_after stage line = cond (is_idle line) stage (moved_on stage (after_word line))
 
 -- What a line that fits hands on; any other is bad.
@@ -67,31 +54,31 @@ afterwards None bad more = bad
 afterwards (Some bytes) bad more = more bytes
 
 -- A text that opens no capture is bad where it ends.
-abbrev pub ended : Stage → ℕ → List ℕ → Result (List ℕ) ℕ
-ended Fresh number done = Err number
-ended (Opened channel) number done = Ok done
+abbrev pub ended : Option ℕ → ℕ → List ℕ → Result (List ℕ) BadLine
+ended None number done = Err (record { line = number })
+ended (Some channel) number done = Ok done
 
 -- The bytes so far, and those that the lines from a number on add, within the room; or the number of the first bad line.
-unfoldable pub composed_from : (ℕ → Bool) → (ℕ → List ℕ → List ℕ) → ℕ → Stage → ℕ → List ℕ → List (List ℕ) → Result (List ℕ) ℕ
+unfoldable pub composed_from : (ℕ → Bool) → (ℕ → List ℕ → List ℕ) → ℕ → Option ℕ → ℕ → List ℕ → List (List ℕ) → Result (List ℕ) BadLine
 composed_from ready seals room stage number done [] = ended stage number done
 composed_from ready seals room stage number done (line ∷ lines) =
-    afterwards (fitting (room - length done) (added_by ready seals stage line)) (Err number)
+    afterwards (fitting (room - length done) (added_by ready seals stage line)) (Err (record { line = number }))
     (λ bytes. composed_from ready seals room (stage_after stage line) (number + 1) (done ++ bytes) lines)
 
 -- The capture that a text makes, or the number of its first bad line, from 1.
-unfoldable pub composed_of : (ℕ → Bool) → (ℕ → List ℕ → List ℕ) → List ℕ → Result (List ℕ) ℕ
-composed_of ready seals text = composed_from ready seals max_capture Fresh 1 [] (lines_of text)
+unfoldable pub composed_of : (ℕ → Bool) → (ℕ → List ℕ → List ℕ) → List ℕ → Result (List ℕ) BadLine
+composed_of ready seals text = composed_from ready seals max_capture None 1 [] (lines_of text)
 
 -- What an answer says of an area.
-abbrev pub capture_in : Result ℕ ℕ → List ℕ → Result (List ℕ) ℕ
+abbrev pub capture_in : Result ℕ BadLine → List ℕ → Result (List ℕ) BadLine
 capture_in (Ok n) area = Ok (take n area)
-capture_in (Err number) area = Err number
+capture_in (Err bad) area = Err bad
 
 -- The answer is the capture's size, and the area has the capture and zeros behind it; only zeros where a line is bad.
-abbrev pub size_in : Result (List ℕ) ℕ → Result ℕ ℕ
+abbrev pub size_in : Result (List ℕ) BadLine → Result ℕ BadLine
 size_in (Ok bytes) = Ok (length bytes)
-size_in (Err number) = Err number
+size_in (Err bad) = Err bad
 
-abbrev pub area_after : Result (List ℕ) ℕ → List ℕ
+abbrev pub area_after : Result (List ℕ) BadLine → List ℕ
 area_after (Ok bytes) = bytes ++ replicate (max_capture - length bytes) 0
-area_after (Err number) = replicate max_capture 0
+area_after (Err bad) = replicate max_capture 0

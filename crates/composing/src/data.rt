@@ -1,17 +1,16 @@
 // The body of a data line.
 ghost use Rattle.std.specs.Prelude.{◌≡◌, length, Some};
-ghost use Rattle.words.specs.Words.{fitting, size_of};
-ghost use Rattle.composing.specs.Composing.{front_in, sized};
-ghost use Rattle.composing.specs.Data.{message_of, part_of, all_of, words_of, plain_of, marks_of, packing_of, after_five, prepared_of, prepared_in, prepared_sized, data_of};
+ghost use Rattle.words.specs.Words.{words_of, fitting, size_of};
+ghost use Rattle.composing.specs.Composing.{front_in, up_to, sized};
+ghost use Rattle.composing.specs.Data.{message_of, part_of, all_of, plain_of, marks_of, packing_of, after_five, prepared_of, prepared_in, prepared_sized, data_of};
 
 use crate::fields::field;
-use crate::kinds::is_word;
 use crate::packed::packed;
 use crate::records::{put, put_datagram};
 use base::limits::{BODY_ROOM, MAX_DATAGRAM, MAX_MESSAGE};
 use parts::SealingCoder;
 use sending::Packing;
-use words::{hex_into, hex_size, split_word};
+use words::{Words, hex_into, hex_size, split_word};
 
 /// What a body has of each message: first their sizes, then their contents.
 #[derive(Clone, Copy)]
@@ -28,36 +27,26 @@ pub struct Marks {
     pub checksum: bool,
 }
 
+#[tactic(auto, unfolding(crate::specs::Data::message_of))]
 fn message_size(word: &[u8]) -> Option<usize>
     ensures { result ≡ size_of (message_of word.now) }
 {
-    if word.len() < 2 {
-        return None;
+    match word {
+        [b't', b':', text @ ..] => Some(text.len()),
+        [b'x', b':', hex @ ..] => hex_size(hex),
+        _ => None,
     }
-    let (mark, rest) = word.split_at(2);
-    if is_word(mark, b"t:") {
-        return Some(rest.len());
-    }
-    if is_word(mark, b"x:") {
-        return hex_size(rest);
-    }
-    None
 }
 
+#[tactic(auto, using(crate::proofs::Messages::front_over), unfolding(crate::specs::Data::message_of))]
 fn put_message(word: &[u8], out: &mut [u8]) -> Option<usize>
     ensures { front_in result out.new ≡ sized (fitting (length out.old) (message_of word.now)) }
 {
-    if word.len() < 2 {
-        return None;
+    match word {
+        [b't', b':', text @ ..] => put(out, text),
+        [b'x', b':', hex @ ..] => hex_into(hex, out),
+        _ => None,
     }
-    let (mark, rest) = word.split_at(2);
-    if is_word(mark, b"t:") {
-        return put(out, rest);
-    }
-    if is_word(mark, b"x:") {
-        return hex_into(rest, out);
-    }
-    None
 }
 
 fn put_part(part: Part, word: &[u8], out: &mut [u8]) -> Option<usize>
@@ -66,9 +55,7 @@ fn put_part(part: Part, word: &[u8], out: &mut [u8]) -> Option<usize>
     match part {
         Part::Content => put_message(word, out),
         Part::Size => {
-            let Some(size) = message_size(word) else {
-                return None;
-            };
+            let size = message_size(word)?;
             if size > MAX_MESSAGE {
                 return None;
             }
@@ -81,31 +68,19 @@ fn put_part(part: Part, word: &[u8], out: &mut [u8]) -> Option<usize>
 fn put_all(part: Part, line: &[u8], out: &mut [u8]) -> Option<usize>
     ensures { front_in result out.new ≡ sized (fitting (length out.old) (all_of part (words_of line.now))) }
 {
-    let mut rest = line;
     let mut at = 0;
-    'words: loop {
-        let (word, more) = split_word(rest);
-        if word.is_empty() {
-            return Some(at);
-        }
-        let Some(size) = put_part(part, word, &mut out[at..]) else {
-            return None;
-        };
-        at += size;
-        rest = more;
+    for word in Words::new(line) {
+        at += put_part(part, word, &mut out[at..])?;
     }
+    Some(at)
 }
 
 // The body that the messages of a line make.
 fn put_plain(line: &[u8], out: &mut [u8]) -> Option<usize>
     ensures { front_in result out.new ≡ sized (fitting (length out.old) (plain_of line.now)) }
 {
-    let Some(sizes) = put_all(Part::Size, line, out) else {
-        return None;
-    };
-    let Some(contents) = put_all(Part::Content, line, &mut out[sizes..]) else {
-        return None;
-    };
+    let sizes = put_all(Part::Size, line, out)?;
+    let contents = put_all(Part::Content, line, &mut out[sizes..])?;
     Some(sizes + contents)
 }
 
@@ -119,34 +94,21 @@ fn marked(duplicate: bool, sealed: bool, checksum: bool) -> Option<Marks>
     })
 }
 
+#[tactic(auto, unfolding(crate::specs::Data::marks_of))]
 fn marks_of(word: &[u8]) -> Option<Marks>
     ensures { result ≡ marks_of word.now }
 {
-    if is_word(word, b"-") {
-        return marked(false, false, false);
+    match word {
+        b"-" => marked(false, false, false),
+        b"d" => marked(true, false, false),
+        b"s" => marked(false, true, false),
+        b"c" => marked(false, false, true),
+        b"ds" => marked(true, true, false),
+        b"dc" => marked(true, false, true),
+        b"sc" => marked(false, true, true),
+        b"dsc" => marked(true, true, true),
+        _ => None,
     }
-    if is_word(word, b"d") {
-        return marked(true, false, false);
-    }
-    if is_word(word, b"s") {
-        return marked(false, true, false);
-    }
-    if is_word(word, b"c") {
-        return marked(false, false, true);
-    }
-    if is_word(word, b"ds") {
-        return marked(true, true, false);
-    }
-    if is_word(word, b"dc") {
-        return marked(true, false, true);
-    }
-    if is_word(word, b"sc") {
-        return marked(false, true, true);
-    }
-    if is_word(word, b"dsc") {
-        return marked(true, true, true);
-    }
-    None
 }
 
 fn packing_from(
@@ -173,6 +135,7 @@ fn packing_from(
     }
 }
 
+#[tactic(auto, unfolding(crate::specs::Data::packing_of))]
 fn packing_of(channel: u16, count: u16, rest: &[u8]) -> Option<Packing>
     ensures { result ≡ packing_of channel count rest.now }
 {
@@ -197,21 +160,6 @@ fn packing_of(channel: u16, count: u16, rest: &[u8]) -> Option<Packing>
     ))
 }
 
-fn count_of(line: &[u8]) -> usize
-    ensures { result ≡ length (words_of line.now) }
-{
-    let mut rest = line;
-    let mut count = 0;
-    'words: loop {
-        let (word, more) = split_word(rest);
-        if word.is_empty() {
-            return count;
-        }
-        count += 1;
-        rest = more;
-    }
-}
-
 fn after_five(rest: &[u8]) -> &[u8]
     ensures { result.now ≡ after_five rest.now }
 {
@@ -223,21 +171,20 @@ fn after_five(rest: &[u8]) -> &[u8]
     rest
 }
 
+fn message_count(line: &[u8]) -> Option<u16>
+    ensures { result ≡ up_to 65535 (Some (length (words_of line.now))) }
+{
+    u16::try_from(Words::new(line).count()).ok()
+}
+
 /// What a data line is packed from: the packing, and the size of the plain body, which is written to the front of an area.
 pub(crate) fn prepare(channel: u16, rest: &[u8], plain: &mut [u8]) -> Option<(Packing, usize)>
     ensures { prepared_in result plain.new ≡ prepared_sized (prepared_of (length plain.old) channel rest.now) }
 {
     let messages = after_five(rest);
-    let Some(size) = put_plain(messages, plain) else {
-        return None;
-    };
-    let count = count_of(messages);
-    if count > 65_535 {
-        return None;
-    }
-    let Some(packing) = packing_of(channel, count as u16, rest) else {
-        return None;
-    };
+    let size = put_plain(messages, plain)?;
+    let count = message_count(messages)?;
+    let packing = packing_of(channel, count, rest)?;
     Some((packing, size))
 }
 
@@ -246,17 +193,13 @@ pub(crate) fn put_data<C: SealingCoder>(
     coder: &C,
     channel: u16,
     rest: &[u8],
-    plain: &mut [u8; BODY_ROOM],
-    buffer: &mut [u8; MAX_DATAGRAM],
     out: &mut [u8],
 ) -> Option<usize>
     ensures { front_in result out.new ≡ sized (fitting (length out.old) (data_of (C.OpeningCoder.ready coder.now) (C.SealingCoder.seals coder.now) channel rest.now)) }
 {
-    let Some((packing, size)) = prepare(channel, rest, plain) else {
-        return None;
-    };
-    let Ok(length) = packed(coder, packing, &plain[..size], buffer) else {
-        return None;
-    };
+    let mut plain = [0; BODY_ROOM];
+    let mut buffer = [0; MAX_DATAGRAM];
+    let (packing, size) = prepare(channel, rest, &mut plain)?;
+    let length = packed(coder, packing, &plain[..size], &mut buffer).ok()?;
     put_datagram(out, &buffer[..length])
 }

@@ -1,7 +1,7 @@
 // The numbers of a line.
 ghost use Rattle.std.specs.Prelude.{◌≡◌};
-ghost use Rattle.words.specs.Words.{number_of};
-ghost use Rattle.composing.specs.Composing.{is_blank, up_to, last_field, last_two};
+ghost use Rattle.words.specs.Words.{is_blank, number_of};
+ghost use Rattle.composing.specs.Composing.{up_to, last_field, last_two};
 
 use words::{number, split_word};
 

@@ -6,7 +6,6 @@ mod fields;
 mod kinds;
 mod packed;
 mod records;
-mod stage;
 mod text;
 
-pub use text::compose;
+pub use text::{BadLine, compose};

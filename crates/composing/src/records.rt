@@ -22,12 +22,11 @@ fn judge_record(k: u64) -> [u8; 9]
     [2, a, b, c, d, e, f, g, h]
 }
 
+#[tactic(auto, unfolding(crate::specs::Composing::judge_of))]
 pub(crate) fn put_judge(rest: &[u8], out: &mut [u8]) -> Option<usize>
     ensures { front_in result out.new ≡ sized (fitting (length out.old) (judge_of rest.now)) }
 {
-    let Some(k) = last_field(rest, u64::MAX) else {
-        return None;
-    };
+    let k = last_field(rest, u64::MAX)?;
     put(out, &judge_record(k))
 }
 
@@ -77,6 +76,7 @@ fn put_hex(word: &[u8], out: &mut [u8]) -> Option<usize>
     Some(start + size)
 }
 
+#[tactic(auto, unfolding(crate::specs::Composing::raw_of))]
 pub(crate) fn put_raw(rest: &[u8], out: &mut [u8]) -> Option<usize>
     ensures { front_in result out.new ≡ sized (fitting (length out.old) (raw_of rest.now)) }
 {
@@ -87,21 +87,19 @@ pub(crate) fn put_raw(rest: &[u8], out: &mut [u8]) -> Option<usize>
     put_hex(word, out)
 }
 
+#[tactic(auto, unfolding(crate::specs::Composing::heartbeat_of))]
 pub(crate) fn put_heartbeat(rest: &[u8], out: &mut [u8]) -> Option<usize>
     ensures { front_in result out.new ≡ sized (fitting (length out.old) (heartbeat_of rest.now)) }
 {
-    let Some(sender) = last_field(rest, 255) else {
-        return None;
-    };
+    let sender = last_field(rest, 255)?;
     put_datagram(out, &control(sender as u8, 0, 0, 0))
 }
 
 // A stream heartbeat has the count 0, a stream end the largest.
+#[tactic(auto, unfolding(crate::specs::Composing::stream_of))]
 pub(crate) fn put_stream(channel: u16, count: u16, rest: &[u8], out: &mut [u8]) -> Option<usize>
     ensures { front_in result out.new ≡ sized (fitting (length out.old) (stream_of channel count rest.now)) }
 {
-    let Some((sender, last)) = last_two(rest, 255, MAX_NUMBER) else {
-        return None;
-    };
+    let (sender, last) = last_two(rest, 255, MAX_NUMBER)?;
     put_datagram(out, &control(sender as u8, channel, last, count))
 }

@@ -1,65 +1,50 @@
 // A capture from all lines of a text.
-ghost use Rattle.std.specs.Prelude.{◌≡◌, ℕ, ◌≤◌, List, [], length, take, IfOk};
-ghost use Rattle.composing.specs.declared.stage.Stage.TheVariants.{Fresh};
-ghost use Rattle.composing.specs.Lines.{lines_of, ended, composed_from, composed_of, capture_in, size_in, area_after};
+ghost use Rattle.std.specs.Prelude.{◌≡◌, ◌≤◌, IfOk};
+ghost use Rattle.composing.specs.Lines.{composed_of, capture_in, size_in, area_after};
 
 use crate::kinds::{put_line, stage_after};
-use crate::stage::Stage;
-use base::limits::{BODY_ROOM, MAX_CAPTURE, MAX_DATAGRAM};
-use base::{zero, zero_from};
+use base::limits::MAX_CAPTURE;
+use base::zero_from;
 use parts::SealingCoder;
-use words::split_line;
+use std::error::Error;
+use std::fmt;
+use words::Lines;
 
-fn end(stage: Stage, number: usize, size: usize) -> Result<usize, usize>
-    ensures capture { (area : List ℕ) → capture_in result area ≡ ended stage number (take size area) }
-    ensures within { IfOk result (λ n. n ≡ size) }
-{
-    match stage {
-        Stage::Fresh => Err(number),
-        Stage::Opened(_) => Ok(size),
+/// The number of a text's first bad line, from 1.
+#[derive(Clone, Copy, Debug)]
+pub struct BadLine {
+    pub line: usize,
+}
+
+impl fmt::Display for BadLine {
+    fn fmt<W: fmt::Write>(&self, f: &mut fmt::Formatter<W>) -> fmt::Result {
+        write!(f, "line {} is bad: no capture is written", self.line)
     }
 }
+
+impl Error for BadLine {}
 
 // All lines of a text, into an area.
 fn compose_lines<C: SealingCoder>(
     coder: &C,
     text: &[u8],
-    plain: &mut [u8; BODY_ROOM],
-    buffer: &mut [u8; MAX_DATAGRAM],
-    area: &mut [u8],
-) -> Result<usize, usize>
-    ensures capture { capture_in result area.new ≡ composed_from (C.OpeningCoder.ready coder.now) (C.SealingCoder.seals coder.now) (length area.old) Fresh 1 [] (lines_of text.now) }
-    ensures within { IfOk result (λ n. n ≤ length area.old) }
-{
-    let mut stage = Stage::Fresh;
-    let mut rest = text;
-    let mut number = 1;
-    let mut at = 0;
-    'lines: while !rest.is_empty() {
-        let (line, more) = split_line(rest);
-        let Some(size) = put_line(coder, stage, line, plain, buffer, &mut area[at..]) else {
-            return Err(number);
-        };
-        stage = stage_after(stage, line);
-        at += size;
-        number += 1;
-        rest = more;
-    }
-    end(stage, number, at)
-}
-
-// The same, into an area for the longest capture.
-fn compose_into<C: SealingCoder>(
-    coder: &C,
-    text: &[u8],
     area: &mut [u8; MAX_CAPTURE],
-) -> Result<usize, usize>
+) -> Result<usize, BadLine>
     ensures capture { capture_in result area.new ≡ composed_of (C.OpeningCoder.ready coder.now) (C.SealingCoder.seals coder.now) text.now }
     ensures within { IfOk result (λ n. n ≤ 65536) }
 {
-    let mut plain = [0; BODY_ROOM];
-    let mut buffer = [0; MAX_DATAGRAM];
-    compose_lines(coder, text, &mut plain, &mut buffer, area)
+    let mut stage = None;
+    let mut number = 1;
+    let mut size = 0;
+    for line in Lines::new(text) {
+        size += put_line(coder, stage, line, &mut area[size..]).ok_or(BadLine { line: number })?;
+        stage = stage_after(stage, line);
+        number += 1;
+    }
+    match stage {
+        Some(_) => Ok(size),
+        None => Err(BadLine { line: number }),
+    }
 }
 
 /// Writes the capture that a text describes, zeros behind it, and answers its size. Where a line is bad it answers the number
@@ -68,19 +53,12 @@ pub fn compose<C: SealingCoder>(
     coder: &C,
     text: &[u8],
     area: &mut [u8; MAX_CAPTURE],
-) -> Result<usize, usize>
+) -> Result<usize, BadLine>
     ensures answer { result ≡ size_in (composed_of (C.OpeningCoder.ready coder.now) (C.SealingCoder.seals coder.now) text.now) }
     ensures after { area.new ≡ area_after (composed_of (C.OpeningCoder.ready coder.now) (C.SealingCoder.seals coder.now) text.now) }
     ensures within { IfOk result (λ n. n ≤ 65536) }
 {
-    match compose_into(coder, text, area) {
-        Ok(size) => {
-            zero_from(area, size);
-            Ok(size)
-        }
-        Err(number) => {
-            zero(area);
-            Err(number)
-        }
-    }
+    let answer = compose_lines(coder, text, area);
+    zero_from(area, answer.unwrap_or(0));
+    answer
 }

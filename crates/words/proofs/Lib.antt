@@ -1,3 +1,4 @@
 pub mod Hexes
+pub mod Lists
 pub mod Numbers
 pub mod Places

@@ -1,6 +1,6 @@
 -- Lines, words, numbers and hexadecimal bytes in a text.
 use Rattle.std.specs.List.{position_or_len}
-use Rattle.std.specs.Prelude.{ℕ, ◌+◌, ◌-◌, ◌*◌, ◌^◌, Bool, cond, not, ◌&&◌, List, [], ◌∷◌, ◌++◌, length, take, drop, Some, None, Option, ◌==◌, nat_le, nat_lt}
+use Rattle.std.specs.Prelude.{ℕ, zero, suc, ◌+◌, ◌-◌, ◌*◌, ◌^◌, Bool, cond, not, ◌&&◌, List, [], ◌∷◌, ◌++◌, length, take, drop, Some, None, Option, ◌==◌, nat_le, nat_lt}
 
 -- the number of bytes before the first `stop`, or of all where there is none
 abbrev pub place_of : ℕ → List ℕ → ℕ
@@ -25,6 +25,27 @@ word_of line = take (place_of 32 (trimmed line)) (trimmed line)
 
 abbrev pub after_word : List ℕ → List ℕ
 after_word line = drop (place_of 32 (trimmed line)) (trimmed line)
+
+-- no word is left on the line
+abbrev pub is_blank : List ℕ → Bool
+is_blank line = length (word_of line) == 0
+
+-- The words of a line, at most so many; each takes a byte at least.
+unfoldable pub words_from : ℕ → List ℕ → List (List ℕ)
+words_from zero line = []
+words_from (suc most) line = cond (is_blank line) [] (word_of line ∷ words_from most (after_word line))
+
+abbrev pub words_of : List ℕ → List (List ℕ)
+words_of line = words_from (length line) line
+
+-- The lines, each without its newline; the last may lack one.
+abbrev pub with_first : ℕ → List (List ℕ) → List (List ℕ)
+with_first b [] = (b ∷ []) ∷ []
+with_first b (line ∷ lines) = (b ∷ line) ∷ lines
+
+abbrev pub lines_of : List ℕ → List (List ℕ)
+lines_of [] = []
+lines_of (b ∷ bs) = cond (b == 10) ([] ∷ lines_of bs) (with_first b (lines_of bs))
 
 abbrev pub is_digit : ℕ → Bool
 is_digit b = nat_le 48 b && nat_le b 57

@@ -1,8 +1,11 @@
 // Lines, words, numbers and hexadecimal bytes of a text.
 #![tactic(auto)]
 
-ghost use Rattle.std.specs.Prelude.{◌≡◌, ◌+◌, ◌-◌, ◌*◌, ◌/◌, ◌^◌, ◌<◌, ◌≤◌, true, length, is_some, IfSome, if◌then◌else◌, Some, None};
-ghost use Rattle.words.specs.Words.{place_of, spaces_of, line_of, after_line, word_of, after_word, is_digit, under, number_of, hex_digit_of, hex_byte_of, hex_of, fitting, size_of, over_front};
+ghost use Rattle.std.specs.Prelude.{◌≡◌, ℕ, List, ◌+◌, ◌-◌, ◌*◌, ◌/◌, ◌^◌, ◌<◌, ◌≤◌, true, length, is_some, IfSome, if◌then◌else◌, Some, None};
+ghost use Rattle.std.specs.Iterator.{YieldsFirstRef, item_count};
+ghost use Rattle.words.specs.Words.{place_of, spaces_of, line_of, after_line, lines_of, word_of, after_word, words_of, is_digit, under, number_of, hex_digit_of, hex_byte_of, hex_of, fitting, size_of, over_front};
+
+use std::marker::Model;
 
 // How many bytes stand before the first `stop`; all of them where there is none.
 fn place_of(stop: u8, bytes: &[u8]) -> usize
@@ -39,6 +42,84 @@ pub fn split_word(line: &[u8]) -> (&[u8], &[u8])
     let start = spaces_of(line);
     let trimmed = &line[start..];
     trimmed.split_at(place_of(b' ', trimmed))
+}
+
+/// The lines of a text in order, each without its newline.
+#[derive(Drop)]
+pub struct Lines<'a> {
+    rest: &'a [u8],
+}
+
+impl<'a> Model for Lines<'a> {
+    ghost Value = { List (List ℕ) };
+
+    ghost view = { λ s. lines_of s.rest.now };
+}
+
+impl<'a> Lines<'a> {
+    #[tactic(auto, using(crate::proofs::Lists::lines_count))]
+    pub fn new(text: &'a [u8]) -> Self
+        ensures lines { result ≡ lines_of text.now }
+        ensures count { length result ≤ length text.now }
+    {
+        Lines { rest: text }
+    }
+}
+
+impl<'a> Iterator for Lines<'a> {
+    type Item = &'a [u8];
+
+    ghost next_gives = { YieldsFirstRef (λ lines. lines) };
+
+    ghost remaining = { item_count (λ lines. lines) };
+
+    fn next(&mut self) -> Option<&'a [u8]> {
+        if self.rest.is_empty() {
+            return None;
+        }
+        let (line, rest) = split_line(self.rest);
+        self.rest = rest;
+        Some(line)
+    }
+}
+
+/// The words of a line in order.
+#[derive(Drop)]
+pub struct Words<'a> {
+    rest: &'a [u8],
+}
+
+impl<'a> Model for Words<'a> {
+    ghost Value = { List (List ℕ) };
+
+    ghost view = { λ s. words_of s.rest.now };
+}
+
+impl<'a> Words<'a> {
+    #[tactic(auto, using(crate::proofs::Lists::words_count))]
+    pub fn new(line: &'a [u8]) -> Self
+        ensures words { result ≡ words_of line.now }
+        ensures count { length result ≤ length line.now }
+    {
+        Words { rest: line }
+    }
+}
+
+impl<'a> Iterator for Words<'a> {
+    type Item = &'a [u8];
+
+    ghost next_gives = { YieldsFirstRef (λ words. words) };
+
+    ghost remaining = { item_count (λ words. words) };
+
+    fn next(&mut self) -> Option<&'a [u8]> {
+        let (word, rest) = split_word(self.rest);
+        if word.is_empty() {
+            return None;
+        }
+        self.rest = rest;
+        Some(word)
+    }
 }
 
 fn digit(b: u8) -> Option<u8>

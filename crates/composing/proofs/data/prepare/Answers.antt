@@ -1,54 +1,41 @@
-use Rattle.std.proofs.Common.{length, take, sym, ap, ◌∙◌, arith}
-use Rattle.words.specs.Words.{fitting}
-use Rattle.composing.specs.Data.{words_of, plain_of, after_five, packing_of, prepared_of}
-use Rattle.composing.proofs.Loops.{sized-none, sized-some}
+use Rattle.std.proofs.Common.{length, take, Some, rules}
+use Rattle.words.specs.Words.{words_of, fitting}
+use Rattle.composing.specs.Composing.{up_to}
+use Rattle.composing.specs.Data.{plain_of, after_five, packing_of, prepared_of}
 use Rattle.composing.proofs.Prepared.{prepared_none, prepared_many, prepared_bad, prepared_whole}
 use Rattle.composing.proofs.data.prepare.Goals as goal
 
-pub returns-in_default : goal.returns-in_default
+pub returns-in_err-size : goal.returns-in_err-size
 unfolding prepared_of
-returns-in_default c =
+returns-in_err-size c =
     let rest = c.args.rest.now in
-    let room = length c.args.plain.now in
-    let messages = c.after_five-messages.result.now in
-    prepared_none (fitting room (plain_of (after_five rest))) (length (words_of (after_five rest))) (λ k. packing_of c.args.channel k rest)
-    (ap (λ l. fitting room (plain_of l)) (sym c.after_five-messages.ensures) ∙ sized-none (fitting room (plain_of messages)) c.in_default.ensures)
+    let none =
+    prepared_none (fitting (length c.args.plain.now) (plain_of (after_five rest))) (up_to 65535 (Some (length (words_of (after_five rest)))))
+    (λ k. packing_of c.args.channel k rest) (search rules) in
+    search rules
 
-pub returns-then-count-gt65535 : goal.returns-then-count-gt65535
+pub returns-in_err-count : goal.returns-in_err-count
 unfolding prepared_of
-returns-then-count-gt65535 c =
+returns-in_err-count c =
     let rest = c.args.rest.now in
-    let room = length c.args.plain.now in
-    let messages = c.after_five-messages.result.now in
-    let bytes = take c.in-Some.size c.put_plain.new.out in
-    let same = ap (λ l. length (words_of l)) c.after_five-messages.ensures in
-    let body = sized-some (fitting room (plain_of messages)) c.in-Some.size bytes c.in-Some.ensures in
-    prepared_many (fitting room (plain_of (after_five rest))) (length (words_of (after_five rest))) (λ k. packing_of c.args.channel k rest) bytes
-    (ap (λ l. fitting room (plain_of l)) (sym c.after_five-messages.ensures) ∙ body.0) (omega (arith, same, c.count_of-count.ensures))
+    let many =
+    prepared_many (fitting (length c.args.plain.now) (plain_of (after_five rest))) (up_to 65535 (Some (length (words_of (after_five rest)))))
+    (λ k. packing_of c.args.channel k rest) c.in_ok-size.size (take c.in_ok-size.size c.put_plain.new.out) (search rules) (search rules) in
+    search rules
 
-pub returns-in_default-packing_of : goal.returns-in_default-packing_of
+pub returns-in_err-packing : goal.returns-in_err-packing
 unfolding prepared_of
-returns-in_default-packing_of c =
+returns-in_err-packing c =
     let rest = c.args.rest.now in
-    let room = length c.args.plain.now in
-    let messages = c.after_five-messages.result.now in
-    let bytes = take c.in-Some.size c.put_plain.new.out in
-    let same = ap (λ l. length (words_of l)) c.after_five-messages.ensures in
-    let body = sized-some (fitting room (plain_of messages)) c.in-Some.size bytes c.in-Some.ensures in
-    prepared_bad (fitting room (plain_of (after_five rest))) (length (words_of (after_five rest))) (λ k. packing_of c.args.channel k rest) bytes
-    (ap (λ l. fitting room (plain_of l)) (sym c.after_five-messages.ensures) ∙ body.0) (omega (arith, same, c.count_of-count.ensures))
-    (c.in_default-packing_of.ensures ∙ ap (λ k. packing_of c.args.channel k rest) (c.count_of-count.ensures ∙ same))
+    let bad =
+    prepared_bad (fitting (length c.args.plain.now) (plain_of (after_five rest))) (up_to 65535 (Some (length (words_of (after_five rest)))))
+    (λ k. packing_of c.args.channel k rest) c.in_ok-size.size (take c.in_ok-size.size c.put_plain.new.out) (search rules) c.in_ok-count.count (search rules) (search rules) in
+    search rules
 
 pub returns : goal.returns
 unfolding prepared_of
 returns c =
     let rest = c.args.rest.now in
-    let room = length c.args.plain.now in
-    let messages = c.after_five-messages.result.now in
-    let bytes = take c.in-Some.size c.put_plain.new.out in
-    let same = ap (λ l. length (words_of l)) c.after_five-messages.ensures in
-    let body = sized-some (fitting room (plain_of messages)) c.in-Some.size bytes c.in-Some.ensures in
-    prepared_whole (fitting room (plain_of (after_five rest))) (length (words_of (after_five rest))) (λ k. packing_of c.args.channel k rest) bytes
-    (ap (λ l. fitting room (plain_of l)) (sym c.after_five-messages.ensures) ∙ body.0) (omega (arith, same, c.count_of-count.ensures))
-    c.in-Some-packing_of.packing c.in-Some.size
-    (c.in-Some-packing_of.ensures ∙ ap (λ k. packing_of c.args.channel k rest) (c.count_of-count.ensures ∙ same)) body.1
+    prepared_whole (fitting (length c.args.plain.now) (plain_of (after_five rest))) (up_to 65535 (Some (length (words_of (after_five rest)))))
+    (λ k. packing_of c.args.channel k rest) c.in_ok-size.size (take c.in_ok-size.size c.put_plain.new.out) (search rules) c.in_ok-count.count (search rules)
+    c.in_ok-packing.packing (search rules)

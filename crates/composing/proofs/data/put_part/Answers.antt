@@ -4,8 +4,8 @@ use Rattle.base.proofs.Fields.{four_bytes}
 use Rattle.composing.proofs.Messages.{part_none, part-long, part-size}
 use Rattle.composing.proofs.data.put_part.Goals as goal
 
-pub returns-in_default : goal.returns-in_default
-returns-in_default c = search (rules, part_none)
+pub returns-in_err-size-in-Size : goal.returns-in_err-size-in-Size
+returns-in_err-size-in-Size c = search (rules, part_none)
 
 pub returns-then-size-gt-MAX_MESSAGE : goal.returns-then-size-gt-MAX_MESSAGE
 unfolding part_of
@@ -17,5 +17,5 @@ returns-in-Content c = search rules
 
 pub returns-else-size-gt-MAX_MESSAGE : goal.returns-else-size-gt-MAX_MESSAGE
 returns-else-size-gt-MAX_MESSAGE c =
-    let field = part-size c.in-Some.size c.args.word.now (search rules) (search rules) in
-    let bytes = four_bytes c.in-Some.size in search rules
+    let field = part-size c.in_ok-size-in-Size.size c.args.word.now (search rules) (search rules) in
+    let bytes = four_bytes c.in_ok-size-in-Size.size in search rules

@@ -1,31 +1,16 @@
-use Rattle.std.proofs.Common.{rules}
+use Rattle.std.proofs.Common.{codes, rules}
+use Rattle.std.proofs.lemmas.Slice.Eq.{text_from_reads}
 use Rattle.composing.specs.Lines.{record_of}
 use Rattle.composing.proofs.kinds.put_record.Goals as goal
 
-pub returns-then-is_word : goal.returns-then-is_word
+pub returns-in-heartbeat : goal.returns-in-heartbeat
 unfolding record_of
-returns-then-is_word g c = search rules
+returns-in-heartbeat g c = let kind = text_from_reads c.args.kind.now (codes "heartbeat") (search rules) (search rules) in search rules
 
-pub returns-then-is_word-2 : goal.returns-then-is_word-2
+pub returns-in-115-2 : goal.returns-in-115-2
 unfolding record_of
-returns-then-is_word-2 g c = search rules
+returns-in-115-2 g c = let kind = text_from_reads c.args.kind.now (codes "stream-end") (search rules) (search rules) in search rules
 
-pub returns-then-is_word-3 : goal.returns-then-is_word-3
+pub returns-in-115 : goal.returns-in-115
 unfolding record_of
-returns-then-is_word-3 g c = search rules
-
-pub returns-then-is_word-4 : goal.returns-then-is_word-4
-unfolding record_of
-returns-then-is_word-4 g c = search rules
-
-pub returns-then-is_word-5 : goal.returns-then-is_word-5
-unfolding record_of
-returns-then-is_word-5 g c = search rules
-
-pub returns-then-is_word-6 : goal.returns-then-is_word-6
-unfolding record_of
-returns-then-is_word-6 g c = search rules
-
-pub returns : goal.returns
-unfolding record_of
-returns g c = search rules
+returns-in-115 g c = let kind = text_from_reads c.args.kind.now (codes "stream-heartbeat") (search rules) (search rules) in search rules
