@@ -4,11 +4,11 @@ use Rattle.std.proofs.lemmas.Bool.Decides.{nat_tests}
 use Rattle.std.specs.Str.{bytes_eq}
 use Rattle.base.specs.Limits.{max_number, body_room}
 use Rattle.base.specs.declared.refusal.Refusal.{Refusal}
-use Rattle.words.specs.Words.{word_of, after_word, number_of, hex_of, fitting}
+use Rattle.words.specs.Words.{word_of, after_word, is_blank, number_of, hex_of, fitting}
 use Rattle.sending.specs.Packing.{packed_of}
 use Rattle.capture.specs.Framing.{framed, Framable}
 use Rattle.capture.specs.Records.{Record, datagram, judge}
-use Rattle.composing.specs.Composing.{is_blank, up_to, last_field, last_two, mapped, control_for, datagram_record, judge_record, judge_of, hex_record, raw_of, heartbeat_of, stream_of}
+use Rattle.composing.specs.Composing.{up_to, last_field, last_two, mapped, control_for, datagram_record, judge_record, judge_of, hex_record, raw_of, heartbeat_of, stream_of}
 use Rattle.composing.specs.Data.{then_on, prepared_of, packed_record, data_of}
 use Rattle.composing.specs.Lines.{record_of}
 use Rattle.composed.specs.Composed.{packed_in, record_in}

@@ -2,52 +2,51 @@
 use Rattle.std.proofs.Common.{◌≡◌, ℕ, ◌+◌, ◌-◌, ◌^◌, ◌<◌, ◌≤◌, Bool, true, false, cond, leb, List, [], ◌∷◌, ◌++◌, length, Some, None, Ok, Err, codes, Option, Result, sym, refl, ap, ◌∙◌, subst, append_assoc, append-nil, arith, length-append}
 use Rattle.std.proofs.lemmas.Bool.Decides.{nat_tests}
 use Rattle.std.specs.Str.{bytes_eq}
-use Rattle.words.specs.Words.{word_of, after_word, number_of, fitting}
+use Rattle.words.specs.Words.{lines_of, word_of, after_word, number_of, fitting}
 use Rattle.capture.specs.Framing.{framed_all, capture_for, AllFramable}
 use Rattle.capture.specs.Records.{Record}
 use Rattle.capture.proofs.Framed.{capture_back}
 use Rattle.composing.specs.Composing.{up_to, last_field, paired, mapped}
-use Rattle.composing.specs.Lines.{lines_of, is_idle, opening_of, header_for, header_of, by_stage, added_by, channel_in, moved_on, stage_after, afterwards, composed_from, composed_of}
-use Rattle.composing.specs.declared.stage.Stage.{Stage}
-use Rattle.composing.specs.declared.stage.Stage.TheVariants.{Fresh, Opened}
+use Rattle.composing.specs.Lines.{is_idle, opening_of, header_for, header_of, by_stage, added_by, moved_on, stage_after, afterwards, composed_from, composed_of}
+use Rattle.composing.specs.declared.text.BadLine.{BadLine}
 use Rattle.composed.specs.Composed.{record_in, with_record, records_in, Stands, opened, stands_for, Composed, Composes}
 use Rattle.composed.proofs.OneLine.{none_some, up_to_within, last_field-within, line_framed}
 
-err_ok : (n : ℕ) (l : List ℕ) → Err n ≡ Ok l → ⊥
-err_ok n l e = let z : ◌≡◌ {A = ℕ} 0 1 = cc in omega arith
+err_ok : (bad : BadLine) (l : List ℕ) → Err bad ≡ Ok l → ⊥
+err_ok bad l e = let z : ◌≡◌ {A = ℕ} 0 1 = cc in omega arith
 
 -- What a line adds where the text goes on.
-record Adds (room : ℕ) (x : Option (List ℕ)) (more : List ℕ → Result (List ℕ) ℕ) (whole : List ℕ) : Type 0 where
+record Adds (room : ℕ) (x : Option (List ℕ)) (more : List ℕ → Result (List ℕ) BadLine) (whole : List ℕ) : Type 0 where
   added : List ℕ
   is : x ≡ Some added
   fits : length added ≤ room
   next : more added ≡ Ok whole
 
-adds : (room number : ℕ) (x : Option (List ℕ)) (more : List ℕ → Result (List ℕ) ℕ) (whole : List ℕ) → afterwards (fitting room x) (Err number) more ≡ Ok whole → Adds room x more whole
-adds room number None more whole e = absurd (err_ok number whole e)
+adds : (room number : ℕ) (x : Option (List ℕ)) (more : List ℕ → Result (List ℕ) BadLine) (whole : List ℕ) → afterwards (fitting room x) (Err (record { line = number })) more ≡ Ok whole → Adds room x more whole
+adds room number None more whole e = absurd (err_ok (record { line = number }) whole e)
 adds room number (Some added) more whole e = test (leb (length added) room) refl e
   where
-    test : (b : Bool) → leb (length added) room ≡ b → afterwards (cond b (Some added) None) (Err number) more ≡ Ok whole → Adds room (Some added) more whole
+    test : (b : Bool) → leb (length added) room ≡ b → afterwards (cond b (Some added) None) (Err (record { line = number })) more ≡ Ok whole → Adds room (Some added) more whole
     test true t f = record { added = added; is = refl; fits = grind (arith, nat_tests); next = f }
-    test false t f = absurd (err_ok number whole f)
+    test false t f = absurd (err_ok (record { line = number }) whole f)
 
 module _ (ready : ℕ → Bool) (seals : ℕ → List ℕ → List ℕ) (whole : List ℕ) where
-  line_adds : (stage : Stage) (number : ℕ) (done line : List ℕ) (lines : List (List ℕ)) → composed_from ready seals 65536 stage number done (line ∷ lines) ≡ Ok whole
+  line_adds : (stage : Option ℕ) (number : ℕ) (done line : List ℕ) (lines : List (List ℕ)) → composed_from ready seals 65536 stage number done (line ∷ lines) ≡ Ok whole
       → Adds (65536 - length done) (added_by ready seals stage line) (λ added. composed_from ready seals 65536 (stage_after stage line) (number + 1) (done ++ added) lines) whole
   unfolding composed_from
   line_adds stage number done line lines e =
       adds (65536 - length done) number (added_by ready seals stage line) (λ added. composed_from ready seals 65536 (stage_after stage line) (number + 1) (done ++ added) lines) whole e
 
   -- a line that is left out
-  idle-adds : (stage : Stage) (line : List ℕ) → is_idle line ≡ true → added_by ready seals stage line ≡ Some []
+  idle-adds : (stage : Option ℕ) (line : List ℕ) → is_idle line ≡ true → added_by ready seals stage line ≡ Some []
   unfolding added_by
   idle-adds stage line t = ap (λ b. cond b (Some []) (by_stage ready seals stage (word_of line) (after_word line))) t
 
-  idle-stage : (stage : Stage) (line : List ℕ) → is_idle line ≡ true → stage_after stage line ≡ stage
+  idle-stage : (stage : Option ℕ) (line : List ℕ) → is_idle line ≡ true → stage_after stage line ≡ stage
   unfolding stage_after
   idle-stage stage line t = ap (λ b. cond b stage (moved_on stage (after_word line))) t
 
-  idle-next : (stage : Stage) (number : ℕ) (done line : List ℕ) (lines : List (List ℕ)) → is_idle line ≡ true → composed_from ready seals 65536 stage number done (line ∷ lines) ≡ Ok whole
+  idle-next : (stage : Option ℕ) (number : ℕ) (done line : List ℕ) (lines : List (List ℕ)) → is_idle line ≡ true → composed_from ready seals 65536 stage number done (line ∷ lines) ≡ Ok whole
       → composed_from ready seals 65536 stage (number + 1) done lines ≡ Ok whole
   idle-next stage number done line lines t e =
       let a = line_adds stage number done line lines e in
@@ -58,11 +57,11 @@ module _ (ready : ℕ → Bool) (seals : ℕ → List ℕ → List ℕ) (whole :
       ∙ ap (λ s. composed_from ready seals 65536 s (number + 1) (done ++ a.added) lines) (sym (idle-stage stage line t)) ∙ a.next
 
   -- a line that counts
-  other_adds : (stage : Stage) (line : List ℕ) → is_idle line ≡ false → added_by ready seals stage line ≡ by_stage ready seals stage (word_of line) (after_word line)
+  other_adds : (stage : Option ℕ) (line : List ℕ) → is_idle line ≡ false → added_by ready seals stage line ≡ by_stage ready seals stage (word_of line) (after_word line)
   unfolding added_by
   other_adds stage line t = ap (λ b. cond b (Some []) (by_stage ready seals stage (word_of line) (after_word line))) t
 
-  other_stage : (stage : Stage) (line : List ℕ) → is_idle line ≡ false → stage_after stage line ≡ moved_on stage (after_word line)
+  other_stage : (stage : Option ℕ) (line : List ℕ) → is_idle line ≡ false → stage_after stage line ≡ moved_on stage (after_word line)
   unfolding stage_after
   other_stage stage line t = ap (λ b. cond b stage (moved_on stage (after_word line))) t
 
@@ -75,10 +74,10 @@ module _ (ready : ℕ → Bool) (seals : ℕ → List ℕ → List ℕ) (whole :
     long : length whole ≤ 65536
 
   running_line : (channel number : ℕ) (done line : List ℕ) (lines : List (List ℕ)) → length done ≤ 65536
-      → ((more : List ℕ) → length more ≤ 65536 → composed_from ready seals 65536 (Opened channel) (number + 1) more lines ≡ Ok whole → Running channel lines more)
-      → composed_from ready seals 65536 (Opened channel) number done (line ∷ lines) ≡ Ok whole → (b : Bool) → is_idle line ≡ b → Running channel (line ∷ lines) done
+      → ((more : List ℕ) → length more ≤ 65536 → composed_from ready seals 65536 (Some channel) (number + 1) more lines ≡ Ok whole → Running channel lines more)
+      → composed_from ready seals 65536 (Some channel) number done (line ∷ lines) ≡ Ok whole → (b : Bool) → is_idle line ≡ b → Running channel (line ∷ lines) done
   running_line channel number done line lines l rest e true t =
-      let r = rest done l (idle-next (Opened channel) number done line lines t e) in
+      let r = rest done l (idle-next (Some channel) number done line lines t e) in
       record {
         records = r.records;
         of = ap (λ b. cond b (records_in ready seals channel lines) (with_record (record_in ready seals channel (word_of line) (after_word line)) (records_in ready seals channel lines))) t ∙ r.of;
@@ -87,9 +86,9 @@ module _ (ready : ℕ → Bool) (seals : ℕ → List ℕ → List ℕ) (whole :
         long = r.long;
       }
   running_line channel number done line lines l rest e false t =
-      let a = line_adds (Opened channel) number done line lines e in
-      let f = line_framed ready seals channel (word_of line) (after_word line) a.added (sym (other_adds (Opened channel) line t) ∙ a.is) in
-      let next = ap (λ s. composed_from ready seals 65536 s (number + 1) (done ++ a.added) lines) (sym (other_stage (Opened channel) line t)) ∙ a.next in
+      let a = line_adds (Some channel) number done line lines e in
+      let f = line_framed ready seals channel (word_of line) (after_word line) a.added (sym (other_adds (Some channel) line t) ∙ a.is) in
+      let next = ap (λ s. composed_from ready seals 65536 s (number + 1) (done ++ a.added) lines) (sym (other_stage (Some channel) line t)) ∙ a.next in
       let r = rest (done ++ a.added) (omega (arith, a.fits, length-append done a.added)) next in
       record {
         records = f.one ∷ r.records;
@@ -101,7 +100,7 @@ module _ (ready : ℕ → Bool) (seals : ℕ → List ℕ → List ℕ) (whole :
         long = r.long;
       }
 
-  running : (channel number : ℕ) (done : List ℕ) (lines : List (List ℕ)) → length done ≤ 65536 → composed_from ready seals 65536 (Opened channel) number done lines ≡ Ok whole
+  running : (channel number : ℕ) (done : List ℕ) (lines : List (List ℕ)) → length done ≤ 65536 → composed_from ready seals 65536 (Some channel) number done lines ≡ Ok whole
       → Running channel lines done
   unfolding composed_from
   running channel number done [] l e =
@@ -128,22 +127,22 @@ module _ (ready : ℕ → Bool) (seals : ℕ → List ℕ → List ℕ) (whole :
   stands_by line lines idle capture =
       cond idle (stands_for ready seals lines) (cond capture (opened ready seals (opening_of (after_word line)) lines) None)
 
-  opens-capture : (number : ℕ) (line : List ℕ) (lines : List (List ℕ)) → composed_from ready seals 65536 Fresh number [] (line ∷ lines) ≡ Ok whole → is_idle line ≡ false
+  opens-capture : (number : ℕ) (line : List ℕ) (lines : List (List ℕ)) → composed_from ready seals 65536 None number [] (line ∷ lines) ≡ Ok whole → is_idle line ≡ false
       → (c : Bool) → bytes_eq (word_of line) (codes "capture") ≡ c → (o : Option (ℕ × ℕ)) → opening_of (after_word line) ≡ o → Composed ready seals (line ∷ lines) whole
   unfolding header_of header_for
   opens-capture number line lines e t false s o k =
-      let a = line_adds ready seals whole Fresh number [] line lines e in
-      absurd (none_some a.added (sym (ap (λ b. cond b (header_of (after_word line)) None) s) ∙ sym (other_adds ready seals whole Fresh line t) ∙ a.is))
+      let a = line_adds ready seals whole None number [] line lines e in
+      absurd (none_some a.added (sym (ap (λ b. cond b (header_of (after_word line)) None) s) ∙ sym (other_adds ready seals whole None line t) ∙ a.is))
   opens-capture number line lines e t true s None k =
-      let a = line_adds ready seals whole Fresh number [] line lines e in
+      let a = line_adds ready seals whole None number [] line lines e in
       absurd (none_some a.added
-      (sym (ap (λ o. mapped (λ p. header_for p.0 p.1) o) k) ∙ sym (ap (λ b. cond b (header_of (after_word line)) None) s) ∙ sym (other_adds ready seals whole Fresh line t) ∙ a.is))
+      (sym (ap (λ o. mapped (λ p. header_for p.0 p.1) o) k) ∙ sym (ap (λ b. cond b (header_of (after_word line)) None) s) ∙ sym (other_adds ready seals whole None line t) ∙ a.is))
   opens-capture number line lines e t true s (Some p) k =
-      let a = line_adds ready seals whole Fresh number [] line lines e in
+      let a = line_adds ready seals whole None number [] line lines e in
       let head : Some (header_for p.0 p.1) ≡ Some a.added =
-      sym (ap (λ o. mapped (λ p. header_for p.0 p.1) o) k) ∙ sym (ap (λ b. cond b (header_of (after_word line)) None) s) ∙ sym (other_adds ready seals whole Fresh line t) ∙ a.is in
+      sym (ap (λ o. mapped (λ p. header_for p.0 p.1) o) k) ∙ sym (ap (λ b. cond b (header_of (after_word line)) None) s) ∙ sym (other_adds ready seals whole None line t) ∙ a.is in
       let header : a.added ≡ header_for p.0 p.1 = cc in
-      let stage : stage_after Fresh line ≡ Opened p.0 = other_stage ready seals whole Fresh line t ∙ ap (λ o. Opened (channel_in o)) k in
+      let stage : stage_after None line ≡ Some p.0 = other_stage ready seals whole None line t ∙ ap (λ o. mapped (λ (q : ℕ × ℕ). q.0) o) k in
       let next = ap (λ st. composed_from ready seals 65536 st (number + 1) a.added lines) (sym stage) ∙ a.next in
       let r = running ready seals whole p.0 (number + 1) a.added lines (omega (arith, a.fits)) next in
       let w = opening_within (after_word line) p k in
@@ -158,10 +157,10 @@ module _ (ready : ℕ → Bool) (seals : ℕ → List ℕ → List ℕ) (whole :
       }
 
   opens-line : (number : ℕ) (line : List ℕ) (lines : List (List ℕ))
-      → (composed_from ready seals 65536 Fresh (number + 1) [] lines ≡ Ok whole → Composed ready seals lines whole)
-      → composed_from ready seals 65536 Fresh number [] (line ∷ lines) ≡ Ok whole → (b : Bool) → is_idle line ≡ b → Composed ready seals (line ∷ lines) whole
+      → (composed_from ready seals 65536 None (number + 1) [] lines ≡ Ok whole → Composed ready seals lines whole)
+      → composed_from ready seals 65536 None number [] (line ∷ lines) ≡ Ok whole → (b : Bool) → is_idle line ≡ b → Composed ready seals (line ∷ lines) whole
   opens-line number line lines rest e true t =
-      let r = rest (idle-next ready seals whole Fresh number [] line lines t e) in
+      let r = rest (idle-next ready seals whole None number [] line lines t e) in
       record {
         stands = r.stands;
         of = ap (λ b. stands_by line lines b (bytes_eq (word_of line) (codes "capture"))) t ∙ r.of;
@@ -171,9 +170,9 @@ module _ (ready : ℕ → Bool) (seals : ℕ → List ℕ → List ℕ) (whole :
   opens-line number line lines rest e false t =
       opens-capture number line lines e t (bytes_eq (word_of line) (codes "capture")) refl (opening_of (after_word line)) refl
 
-  opens : (number : ℕ) (lines : List (List ℕ)) → composed_from ready seals 65536 Fresh number [] lines ≡ Ok whole → Composed ready seals lines whole
+  opens : (number : ℕ) (lines : List (List ℕ)) → composed_from ready seals 65536 None number [] lines ≡ Ok whole → Composed ready seals lines whole
   unfolding composed_from
-  opens number [] e = absurd (err_ok number whole e)
+  opens number [] e = absurd (err_ok (record { line = number }) whole e)
   opens number (line ∷ lines) e = opens-line number line lines (opens (number + 1) lines) e (is_idle line) refl
 
 pub composes : Composes

@@ -3,13 +3,13 @@ use Rattle.std.specs.Prelude.{◌≡◌, ℕ, ◌-◌, ◌^◌, Bool, cond, List
 use Rattle.std.specs.Str.{bytes_eq}
 use Rattle.base.specs.Limits.{max_number, body_room}
 use Rattle.base.specs.declared.refusal.Refusal.{Refusal}
-use Rattle.words.specs.Words.{word_of, after_word, hex_of, fitting}
+use Rattle.words.specs.Words.{lines_of, word_of, after_word, is_blank, hex_of, fitting}
 use Rattle.sending.specs.Packing.{packed_of}
 use Rattle.capture.specs.Framing.{capture_for, ReadsBack}
 use Rattle.capture.specs.Records.{Record, datagram, judge}
-use Rattle.composing.specs.Composing.{is_blank, last_field, last_two, mapped, control_for}
+use Rattle.composing.specs.Composing.{last_field, last_two, mapped, control_for}
 use Rattle.composing.specs.Data.{then_on, prepared_of}
-use Rattle.composing.specs.Lines.{lines_of, is_idle, opening_of, composed_of}
+use Rattle.composing.specs.Lines.{is_idle, opening_of, composed_of}
 
 abbrev pub packed_in : Result (List ℕ) Refusal → Option Record
 packed_in (Ok d) = Some (datagram d)

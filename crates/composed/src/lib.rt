@@ -4,8 +4,7 @@
 ghost use Rattle.composed.specs.Composed.{Composes};
 
 /// A composed capture has the channel, the start and the records that the lines of its text stand for, and reads back as these.
-pub fn composed_reads_back() -> u8
+pub fn composed_reads_back()
     ensures { Composes }
 {
-    0
 }
