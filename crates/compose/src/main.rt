@@ -2,7 +2,7 @@
 // hexadecimal.
 #![tactic(auto)]
 
-use anyhow::anyhow;
+use anyhow::{Context, anyhow};
 use base::limits::{MAX_CAPTURE, MAX_TOKEN};
 use composing::compose;
 use std::env;
@@ -23,22 +23,18 @@ fn main(rt: HostRuntime) -> anyhow::Result<()> {
     let mut area = [0; MAX_CAPTURE];
     let mut args = env::args(&rt)?;
     let _program = args.next();
-    let answer = match args.next() {
+    let composed = match args.next() {
         None => compose(&Untokened, text.as_slice(), &mut area),
         Some(word) => {
-            let Some(coder) = token_coder(word.as_bytes()) else {
-                return Err(anyhow!("the token is not 1 to 64 bytes in hexadecimal"));
-            };
+            let coder = token_coder(word.as_bytes())
+                .context("the token is not 1 to 64 bytes in hexadecimal")?;
             compose(&coder, text.as_slice(), &mut area)
         }
     };
-    match answer {
-        Ok(size) => {
-            rt.stdout().write_all(&area[..size])?;
-            Ok(())
-        }
-        Err(line) => {
-            eprintln!(rt; "line {line} is bad: no capture is written")?;
+    match composed {
+        Ok(size) => Ok(rt.stdout().write_all(&area[..size])?),
+        Err(bad) => {
+            eprintln!(rt; "{bad}")?;
             Err(anyhow!("no capture is written"))
         }
     }
