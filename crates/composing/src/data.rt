@@ -4,13 +4,12 @@ ghost use Rattle.words.specs.Words.{words_of, fitting, size_of};
 ghost use Rattle.composing.specs.Composing.{front_in, up_to, sized};
 ghost use Rattle.composing.specs.Data.{message_of, part_of, all_of, plain_of, marks_of, packing_of, after_five, prepared_of, prepared_in, prepared_sized, data_of};
 
-use crate::fields::field;
 use crate::packed::packed;
 use crate::records::{put, put_datagram};
 use base::limits::{BODY_ROOM, MAX_DATAGRAM, MAX_MESSAGE};
 use parts::SealingCoder;
 use sending::Packing;
-use words::{Words, hex_into, hex_size, split_word};
+use words::{Words, hex_into, hex_size, number, split_word};
 
 /// What a body has of each message: first their sizes, then their contents.
 #[derive(Clone, Copy)]
@@ -140,23 +139,23 @@ fn packing_of(channel: u16, count: u16, rest: &[u8]) -> Option<Packing>
     ensures { result ≡ packing_of channel count rest.now }
 {
     let (word, rest) = split_word(rest);
-    let sender = field(word, 255)?;
+    let sender = u8::try_from(number(word)?).ok()?;
     let (word, rest) = split_word(rest);
-    let first = field(word, u64::MAX)?;
+    let first = number(word)?;
     let (word, rest) = split_word(rest);
     let marks = marks_of(word)?;
     let (word, rest) = split_word(rest);
-    let size = field(word, 65_535)?;
+    let size = u16::try_from(number(word)?).ok()?;
     let (word, _) = split_word(rest);
-    let number = field(word, 65_535)?;
+    let fragment = u16::try_from(number(word)?).ok()?;
     Some(packing_from(
-        sender as u8,
+        sender,
         channel,
         first,
         count,
         marks,
-        size as usize,
-        number as u16,
+        usize::from(size),
+        fragment,
     ))
 }
 

@@ -6,7 +6,9 @@ ghost use Rattle.composing.specs.Lines.{is_idle, opening_of, header_for, header_
 
 use crate::data::put_data;
 use crate::fields::{is_blank, last_two};
-use crate::records::{put, put_heartbeat, put_judge, put_raw, put_stream};
+use crate::records::{
+    STREAM_END, STREAM_HEARTBEAT, put, put_heartbeat, put_judge, put_raw, put_stream,
+};
 use parts::SealingCoder;
 use words::split_word;
 
@@ -38,8 +40,8 @@ pub(crate) fn put_record<C: SealingCoder>(
         b"judge" => put_judge(rest, out),
         b"raw" => put_raw(rest, out),
         b"heartbeat" => put_heartbeat(rest, out),
-        b"stream-heartbeat" => put_stream(channel, 0, rest, out),
-        b"stream-end" => put_stream(channel, 0xFFFF, rest, out),
+        b"stream-heartbeat" => put_stream(channel, STREAM_HEARTBEAT, rest, out),
+        b"stream-end" => put_stream(channel, STREAM_END, rest, out),
         _ => None,
     }
 }
@@ -55,10 +57,11 @@ fn header(channel: u16, start: u64) -> [u8; 15]
     header
 }
 
-fn opening(rest: &[u8]) -> Option<(u64, u64)>
+fn opening(rest: &[u8]) -> Option<(u16, u64)>
     ensures { result ≡ opening_of rest.now }
 {
-    last_two(rest, 65_535, u64::MAX)
+    let (channel, start) = last_two(rest, 65_535, u64::MAX)?;
+    Some((channel as u16, start))
 }
 
 #[tactic(auto, unfolding(crate::specs::Lines::header_of))]
@@ -66,7 +69,7 @@ fn put_header(rest: &[u8], out: &mut [u8]) -> Option<usize>
     ensures { front_in result out.new ≡ sized (fitting (length out.old) (header_of rest.now)) }
 {
     let (channel, start) = opening(rest)?;
-    put(out, &header(channel as u16, start))
+    put(out, &header(channel, start))
 }
 
 fn put_by_stage<C: SealingCoder>(
@@ -105,7 +108,7 @@ pub(crate) fn put_line<C: SealingCoder>(
 fn next_stage(stage: Option<u16>, rest: &[u8]) -> Option<u16>
     ensures { result ≡ moved_on stage rest.now }
 {
-    stage.or_else(|| opening(rest).map(|(channel, _)| channel as u16))
+    stage.or_else(|| opening(rest).map(|(channel, _)| channel))
 }
 
 /// The stage behind a line.

@@ -18,8 +18,9 @@ pub(crate) fn put(out: &mut [u8], part: &[u8]) -> Option<usize>
 fn judge_record(k: u64) -> [u8; 9]
     ensures { result ≡ judge_record k }
 {
-    let [a, b, c, d, e, f, g, h] = k.to_be_bytes();
-    [2, a, b, c, d, e, f, g, h]
+    let mut record = [2; 9];
+    record[1..].copy_from_slice(&k.to_be_bytes());
+    record
 }
 
 #[tactic(auto, unfolding(crate::specs::Composing::judge_of))]
@@ -95,7 +96,10 @@ pub(crate) fn put_heartbeat(rest: &[u8], out: &mut [u8]) -> Option<usize>
     put_datagram(out, &control(sender as u8, 0, 0, 0))
 }
 
-// A stream heartbeat has the count 0, a stream end the largest.
+// What tells a stream heartbeat and a stream end apart is the count of messages in their headers.
+pub(crate) const STREAM_HEARTBEAT: u16 = 0;
+pub(crate) const STREAM_END: u16 = 0xFFFF;
+
 #[tactic(auto, unfolding(crate::specs::Composing::stream_of))]
 pub(crate) fn put_stream(channel: u16, count: u16, rest: &[u8], out: &mut [u8]) -> Option<usize>
     ensures { front_in result out.new ≡ sized (fitting (length out.old) (stream_of channel count rest.now)) }
