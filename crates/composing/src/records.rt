@@ -43,12 +43,12 @@ pub(crate) fn put_datagram(out: &mut [u8], datagram: &[u8]) -> Option<usize>
 fn control_head(sender: u8, channel: u16, last: u64, count: u16) -> [u8; 20]
     ensures { result ≡ control_head sender channel last count }
 {
-    let [c, d] = channel.to_be_bytes();
-    let [i, j, k, l, m, n, o, p] = last.to_be_bytes();
-    let [q, r] = count.to_be_bytes();
-    [
-        0xFF, 1, 5, sender, 0, 1, c, d, i, j, k, l, m, n, o, p, q, r, 0, 0,
-    ]
+    let mut head = [0; 20];
+    head[..6].copy_from_slice(&[0xFF, 1, 5, sender, 0, 1]);
+    head[6..8].copy_from_slice(&channel.to_be_bytes());
+    head[8..16].copy_from_slice(&last.to_be_bytes());
+    head[16..18].copy_from_slice(&count.to_be_bytes());
+    head
 }
 
 fn control(sender: u8, channel: u16, last: u64, count: u16) -> [u8; 24]
@@ -98,6 +98,7 @@ pub(crate) fn put_heartbeat(rest: &[u8], out: &mut [u8]) -> Option<usize>
 
 // What tells a stream heartbeat and a stream end apart is the count of messages in their headers.
 pub(crate) const STREAM_HEARTBEAT: u16 = 0;
+
 pub(crate) const STREAM_END: u16 = 0xFFFF;
 
 #[tactic(auto, unfolding(crate::specs::Composing::stream_of))]
