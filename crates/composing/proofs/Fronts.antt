@@ -6,7 +6,7 @@ use Rattle.std.proofs.Math.Seq.{drop-append-add}
 use Rattle.base.specs.Areas.{written_at}
 use Rattle.base.proofs.Areas.{put_mid-written}
 use Rattle.words.specs.Words.{fitting}
-use Rattle.composing.specs.Composing.{front_in, sized, mapped}
+use Rattle.composing.specs.Composing.{front_in, sized}
 
 front_by : (b : Bool) (m : ℕ) (area part rest : List ℕ) → length part ≡ m → front_in (cond b (Some m) None) (cond b (part ++ rest) area) ≡ sized (cond b (Some part) None)
 front_by true m area part rest h = ap (λ l. Some (m, l)) (take_at part rest m h) ∙ ap (λ n. Some (n, part)) (sym h)
@@ -19,13 +19,6 @@ front_written area part r exit e f =
     ap (λ x. front_in x exit) e ∙ ap (front_in (cond (leb (0 + length part) (length area)) (Some (0 + length part)) None)) f
     ∙ front_by (leb (0 + length part) (length area)) (0 + length part) area part (drop (0 + length part) area) (omega arith)
     ∙ ap (λ n. sized (cond (leb n (length area)) (Some part) None)) (zero-add (length part))
-
--- a line that is bad, and one whose record was put
-pub none_put : {X : Type 0} (f : X → List ℕ) (room : ℕ) (x : Option X) → None ≡ x → None ≡ sized (fitting room (mapped f x))
-none_put f room x e = ap (λ y. sized (fitting room (mapped f y))) e
-
-pub some-put : {X : Type 0} (f : X → List ℕ) (room : ℕ) (x : Option X) (k : X) → Some k ≡ x → sized (fitting room (Some (f k))) ≡ sized (fitting room (mapped f x))
-some-put f room x k e = ap (λ y. sized (fitting room (mapped f y))) e
 
 -- two parts, one behind the other
 pub begun : (b : Bool) (m start : ℕ) → Some start ≡ cond b (Some m) None → (b ≡ true) × (start ≡ m)

@@ -12,6 +12,7 @@ use sending::Packing;
 use words::{Words, hex_into, hex_size, number, split_word};
 
 /// What a body has of each message: first their sizes, then their contents.
+// An enum and no closure: the definition `all_of` goes by it, and a closure would need a clause on what it writes.
 #[derive(Clone, Copy)]
 pub enum Part {
     Size,

@@ -34,6 +34,7 @@ fn compose_lines<C: SealingCoder>(
     ensures within { IfOk result (λ n. n ≤ 65536) }
 {
     let mut stage = None;
+    // Counted by hand, since the number behind the last line is told too.
     let mut number = 1;
     let mut size = 0;
     for line in Lines::new(text) {
