@@ -6,5 +6,4 @@ ghost use Rattle.composed.specs.Composed.{Composes};
 /// A composed capture has the channel, the start and the records that the lines of its text stand for, and reads back as these.
 pub fn composed_reads_back()
     ensures { Composes }
-{
-}
+{}
