@@ -26,8 +26,9 @@ fn main(rt: HostRuntime) -> anyhow::Result<()> {
     let composed = match args.next() {
         None => compose(&Untokened, text.as_slice(), &mut area),
         Some(word) => {
-            let coder = token_coder(word.as_bytes())
-                .context("the token is not 1 to 64 bytes in hexadecimal")?;
+            let coder = token_coder(word.as_bytes()).context(
+                "the token is not 1 to 64 bytes in hexadecimal",
+            )?;
             compose(&coder, text.as_slice(), &mut area)
         }
     };
