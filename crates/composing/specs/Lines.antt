@@ -41,8 +41,12 @@ unfoldable pub added_by : (ℕ → Bool) → (ℕ → List ℕ → List ℕ) →
 added_by ready seals stage line = cond (is_idle line) (Some []) (by_stage ready seals stage (word_of line) (after_word line))
 
 -- The stage behind a line that is not bad.
+abbrev pub channel_in : Option (ℕ × ℕ) → ℕ
+channel_in None = 0
+channel_in (Some p) = p.0
+
 abbrev pub moved_on : Option ℕ → List ℕ → Option ℕ
-moved_on None rest = mapped (λ p. p.0) (opening_of rest)
+moved_on None rest = Some (channel_in (opening_of rest))
 moved_on (Some channel) rest = Some channel
 
 unfoldable pub stage_after : Option ℕ → List ℕ → Option ℕ

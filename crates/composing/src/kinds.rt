@@ -60,6 +60,7 @@ fn header(channel: u16, start: u64) -> [u8; 15]
 fn opening(rest: &[u8]) -> Option<(u16, u64)>
     ensures { result ≡ opening_of rest.now }
 {
+    // `as`, since the limit is tested: `try_from` would bring an error that cannot come.
     let (channel, start) = last_two(rest, 65_535, u64::MAX)?;
     Some((channel as u16, start))
 }
@@ -105,10 +106,11 @@ pub(crate) fn put_line<C: SealingCoder>(
     put_by_stage(coder, stage, kind, rest, out)
 }
 
+// The stage behind a line that is not idle. Behind a bad opening it is channel 0; no line is read there.
 fn next_stage(stage: Option<u16>, rest: &[u8]) -> Option<u16>
     ensures { result ≡ moved_on stage rest.now }
 {
-    stage.or_else(|| opening(rest).map(|(channel, _)| channel))
+    stage.or(Some(opening(rest).map_or(0, |(channel, _)| channel)))
 }
 
 /// The stage behind a line.

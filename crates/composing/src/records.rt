@@ -69,10 +69,7 @@ fn put_hex(word: &[u8], out: &mut [u8]) -> Option<usize>
         return None;
     }
     let size = hex_into(word, &mut out[3..])?;
-    if size > 65_535 {
-        return None;
-    }
-    let [high, low] = (size as u16).to_be_bytes();
+    let [high, low] = u16::try_from(size).ok()?.to_be_bytes();
     let start = write_at(out, 0, &[1, high, low])?;
     Some(start + size)
 }
@@ -92,6 +89,7 @@ pub(crate) fn put_raw(rest: &[u8], out: &mut [u8]) -> Option<usize>
 pub(crate) fn put_heartbeat(rest: &[u8], out: &mut [u8]) -> Option<usize>
     ensures { front_in result out.new ≡ sized (fitting (length out.old) (heartbeat_of rest.now)) }
 {
+    // `as`, since the limit is tested: `try_from` would bring an error that cannot come.
     let sender = last_field(rest, 255)?;
     put_datagram(out, &control(sender as u8, 0, 0, 0))
 }
@@ -105,6 +103,7 @@ pub(crate) const STREAM_END: u16 = 0xFFFF;
 pub(crate) fn put_stream(channel: u16, count: u16, rest: &[u8], out: &mut [u8]) -> Option<usize>
     ensures { front_in result out.new ≡ sized (fitting (length out.old) (stream_of channel count rest.now)) }
 {
+    // `as`, since the limit is tested, as for a heartbeat.
     let (sender, last) = last_two(rest, 255, MAX_NUMBER)?;
     put_datagram(out, &control(sender as u8, channel, last, count))
 }

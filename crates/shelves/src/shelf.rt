@@ -79,6 +79,7 @@ impl<R: Rack> Shelf for LentShelf<'_, R> {
         if self.rack.find(first).is_some() {
             return Err(Refusal::new(Cause::AlreadyHeld, 0));
         }
+        // No `ok_or(..)?`: the refusal stands where it is given.
         let Some(spare) = self.rack.spare() else {
             return Err(Refusal::new(Cause::ShelfFull, first));
         };

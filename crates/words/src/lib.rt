@@ -195,6 +195,7 @@ fn decode(word: &[u8], out: &mut [u8])
     ensures { Some out.new ≡ hex_of word.now }
 {
     let (pairs, _) = word.as_chunks::<2>();
+    // By an index: a proof knows nothing of what is written through a `zip` with `iter_mut`.
     for (i, byte) in out.iter_mut().enumerate() {
         let [high, low] = pairs[i];
         *byte = hex_byte(high, low).unwrap();

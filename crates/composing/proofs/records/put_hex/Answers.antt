@@ -1,4 +1,5 @@
-use Rattle.std.proofs.Common.{◌≡◌, ◌+◌, ◌-◌, [], ◌∷◌, ◌++◌, length, get_or, take, drop, refl, ap, ◌∙◌, rules}
+use Rattle.std.proofs.Common.{◌≡◌, ◌+◌, ◌-◌, [], ◌∷◌, ◌++◌, length, get_or, take, drop, refl, ap, ◌∙◌, arith, rules, ◌<◌}
+use Rattle.std.proofs.lemmas.Grind.{common_steps}
 use borrow.Rule.Slice.PartMut.{put_mid}
 use Rattle.base.specs.Fields.{be_bytes}
 use Rattle.composing.proofs.Hexes.{hex_short, hex_none, hex_large, hex_put, three_over}
@@ -10,11 +11,11 @@ returns-then-out-lt3 c = search (rules, hex_short)
 pub returns-in_err-size : goal.returns-in_err-size
 returns-in_err-size c = search (rules, hex_none)
 
-pub returns-then-size-gt65535 : goal.returns-then-size-gt65535
-returns-then-size-gt65535 c =
+pub returns-in_err-ok : goal.returns-in_err-ok
+returns-in_err-ok c =
     let out = c.args.out.now in
-    hex_large (length out) (length (take (length out - 3) (drop 3 out))) c.in_ok-size.size c.args.word.now c.in_ok-size.ensures.size
-    (search rules)
+    let large : 65535 < c.in_ok-size.size = grind (arith, common_steps) in
+    rw c.from_residual-in_err-ok.ensures (hex_large (length out) (length (take (length out - 3) (drop 3 out))) c.in_ok-size.size c.args.word.now c.in_ok-size.ensures.size large)
 
 pub returns : goal.returns
 returns c =
