@@ -7,7 +7,7 @@ use Rattle.capture.specs.Framing.{framed_all, capture_for, AllFramable}
 use Rattle.capture.specs.Records.{Record}
 use Rattle.capture.proofs.Framed.{capture_back}
 use Rattle.composing.specs.Composing.{up_to, last_field, paired, mapped}
-use Rattle.composing.specs.Lines.{is_idle, opening_of, header_for, header_of, by_stage, added_by, moved_on, stage_after, afterwards, composed_from, composed_of}
+use Rattle.composing.specs.Lines.{is_idle, opening_of, header_for, header_of, by_stage, added_by, channel_in, moved_on, stage_after, afterwards, composed_from, composed_of}
 use Rattle.composing.specs.declared.text.BadLine.{BadLine}
 use Rattle.composed.specs.Composed.{record_in, with_record, records_in, Stands, opened, stands_for, Composed, Composes}
 use Rattle.composed.proofs.OneLine.{none_some, up_to_within, last_field-within, line_framed}
@@ -142,7 +142,7 @@ module _ (ready : ℕ → Bool) (seals : ℕ → List ℕ → List ℕ) (whole :
       let head : Some (header_for p.0 p.1) ≡ Some a.added =
       sym (ap (λ o. mapped (λ p. header_for p.0 p.1) o) k) ∙ sym (ap (λ b. cond b (header_of (after_word line)) None) s) ∙ sym (other_adds ready seals whole None line t) ∙ a.is in
       let header : a.added ≡ header_for p.0 p.1 = cc in
-      let stage : stage_after None line ≡ Some p.0 = other_stage ready seals whole None line t ∙ ap (λ o. mapped (λ (q : ℕ × ℕ). q.0) o) k in
+      let stage : stage_after None line ≡ Some p.0 = other_stage ready seals whole None line t ∙ ap (λ o. Some (channel_in o)) k in
       let next = ap (λ st. composed_from ready seals 65536 st (number + 1) a.added lines) (sym stage) ∙ a.next in
       let r = running ready seals whole p.0 (number + 1) a.added lines (omega (arith, a.fits)) next in
       let w = opening_within (after_word line) p k in
