@@ -1,5 +1,5 @@
 -- What the coding layer did.
-use Rattle.std.proofs.Common.{◌≡◌, ℕ, Bool, true, false, cond, List, Ok, Err, Result, refl, arith}
+use Rattle.std.proofs.Common.{◌≡◌, ℕ, Bool, true, false, cond, List, Ok, Err, Result, refl}
 use Rattle.base.specs.declared.refusal.Refusal.{Refusal}
 use Rattle.wire.specs.Bodies.{checked_of}
 use Rattle.wire.specs.Reading.{and_then}
@@ -9,9 +9,9 @@ use Rattle.account.specs.Opened.{unit_of}
 
 then_ok : (b : Bool) (e : Refusal) (checked : Result (Unit {0}) Refusal) (x : List ℕ)
     → Ok tt ≡ unit_of (cond b (Err e) (and_then checked (λ _. Ok x))) → cond b (Err e) (and_then checked (λ _. Ok x)) ≡ Ok x
-then_ok true e checked x is = absurd (let z : ◌≡◌ {A = ℕ} 0 1 = cc in omega arith)
+then_ok true e checked x is = absurd (cc)
 then_ok false e (Ok u) x is = refl
-then_ok false e (Err f) x is = absurd (let z : ◌≡◌ {A = ℕ} 0 1 = cc in omega arith)
+then_ok false e (Err f) x is = absurd (cc)
 
 pub plain_ok : (c : Coder) (p : Packet) (coded : List ℕ) → Ok tt ≡ unit_of (plain_of c p coded) → plain_of c p coded ≡ Ok (opened_by c p coded)
 unfolding plain_of

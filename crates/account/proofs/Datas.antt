@@ -1,5 +1,5 @@
 -- What data comes to, by what joining it came to.
-use Rattle.std.proofs.Common.{◌≡◌, ℕ, ◌≤◌, List, length, Some, Ok, Err, Result, IsErrAnd, sym, refl, ap, ◌∙◌, arith}
+use Rattle.std.proofs.Common.{◌≡◌, ℕ, ◌≤◌, List, length, Some, Ok, Err, Result, IsErrAnd, sym, refl, ap, ◌∙◌}
 use Rattle.std.proofs.lemmas.Bool.{le-ltb, cond-false}
 use Rattle.base.specs.declared.refusal.Refusal.{Refusal}
 use Rattle.partials.specs.Joining.{Partial, Outcome, refused, again, kept, whole, bytes_of}
@@ -14,33 +14,33 @@ use Rattle.account.specs.States.{State}
 module _ (p : Packet) (d joining : List ℕ) (ps qs : List Partial) where
   pub came_refused : (o : Outcome) (e : Refusal) → JoinedTo o p d ps (Err e) qs joining → (o ≡ refused e) × (qs ≡ ps)
   came_refused (refused f) e j = (let is = j.answer in let same : e ≡ f = cc in ap refused (sym same), j.after)
-  came_refused again e j = absurd (let is = j.answer in let z : ◌≡◌ {A = ℕ} 0 1 = cc in omega arith)
-  came_refused (kept rs bytes) e j = absurd (let is = j.answer in let z : ◌≡◌ {A = ℕ} 0 1 = cc in omega arith)
-  came_refused (whole bytes) e j = absurd (let is = j.answer in let z : ◌≡◌ {A = ℕ} 0 1 = cc in omega arith)
+  came_refused again e j = absurd (cc j.answer)
+  came_refused (kept rs bytes) e j = absurd (cc j.answer)
+  came_refused (whole bytes) e j = absurd (cc j.answer)
 
   pub came_again : (o : Outcome) → JoinedTo o p d ps (Ok Again) qs joining → (o ≡ again) × (qs ≡ ps)
-  came_again (refused f) j = absurd (let is = j.answer in let z : ◌≡◌ {A = ℕ} 0 1 = cc in omega arith)
+  came_again (refused f) j = absurd (cc j.answer)
   came_again again j = (refl, j.after)
-  came_again (kept rs bytes) j = absurd (let is = j.answer in let z : ◌≡◌ {A = ℕ} 0 1 = cc in omega arith)
-  came_again (whole bytes) j = absurd (let is = j.answer in let z : ◌≡◌ {A = ℕ} 0 1 = cc in omega arith)
+  came_again (kept rs bytes) j = absurd (cc j.answer)
+  came_again (whole bytes) j = absurd (cc j.answer)
 
   pub came_kept : (o : Outcome) → JoinedTo o p d ps (Ok Kept) qs joining → o ≡ kept qs (bytes_of o)
-  came_kept (refused f) j = absurd (let is = j.answer in let z : ◌≡◌ {A = ℕ} 0 1 = cc in omega arith)
-  came_kept again j = absurd (let is = j.answer in let z : ◌≡◌ {A = ℕ} 0 1 = cc in omega arith)
+  came_kept (refused f) j = absurd (cc j.answer)
+  came_kept again j = absurd (cc j.answer)
   came_kept (kept rs bytes) j = ap (λ x. kept x bytes) (sym j.after)
-  came_kept (whole bytes) j = absurd (let is = j.answer in let z : ◌≡◌ {A = ℕ} 0 1 = cc in omega arith)
+  came_kept (whole bytes) j = absurd (cc j.answer)
 
   -- a whole packet's coded body stands where it was said to
   pub coded-there : (o : Outcome) (size : ℕ) → JoinedTo o p d ps (Ok (Whole size)) qs joining → coded_of p d size joining ≡ Some (bytes_of o)
-  coded-there (refused f) size j = absurd (let is = j.answer in let z : ◌≡◌ {A = ℕ} 0 1 = cc in omega arith)
-  coded-there again size j = absurd (let is = j.answer in let z : ◌≡◌ {A = ℕ} 0 1 = cc in omega arith)
-  coded-there (kept rs bytes) size j = absurd (let is = j.answer in let z : ◌≡◌ {A = ℕ} 0 1 = cc in omega arith)
+  coded-there (refused f) size j = absurd (cc j.answer)
+  coded-there again size j = absurd (cc j.answer)
+  coded-there (kept rs bytes) size j = absurd (cc j.answer)
   coded-there (whole bytes) size j = let is = j.answer in let same : size ≡ length bytes = cc in ap (λ n. coded_of p d n joining) same ∙ j.coded
 
   came_by : (o : Outcome) (size : ℕ) → JoinedTo o p d ps (Ok (Whole size)) qs joining → (o ≡ whole (bytes_of o)) × (qs ≡ ps)
-  came_by (refused f) size j = absurd (let is = j.answer in let z : ◌≡◌ {A = ℕ} 0 1 = cc in omega arith)
-  came_by again size j = absurd (let is = j.answer in let z : ◌≡◌ {A = ℕ} 0 1 = cc in omega arith)
-  came_by (kept rs bytes) size j = absurd (let is = j.answer in let z : ◌≡◌ {A = ℕ} 0 1 = cc in omega arith)
+  came_by (refused f) size j = absurd (cc j.answer)
+  came_by again size j = absurd (cc j.answer)
+  came_by (kept rs bytes) size j = absurd (cc j.answer)
   came_by (whole bytes) size j = (refl, j.after)
 
   pub came_whole : (o : Outcome) (size : ℕ) (coded : List ℕ) → JoinedTo o p d ps (Ok (Whole size)) qs joining → Some coded ≡ coded_of p d size joining → (o ≡ whole coded) × (qs ≡ ps)

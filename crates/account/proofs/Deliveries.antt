@@ -2,7 +2,7 @@
 use Rattle.std.proofs.Common.{◌≡◌, ℕ, suc, ◌+◌, ◌<◌, ◌≤◌, true, leb, List, [], ◌∷◌, ◌&&◌, map, length, sum, get_or, take, drop, refl, ap, ◌∙◌, subst, arith, length-append}
 use lib.ListN.{length-map}
 use Rattle.std.proofs.lemmas.List.{length-take-le, length-drop}
-use Rattle.std.proofs.lemmas.List.Sums.{sum-map, sum_by-cons}
+use Rattle.std.proofs.lemmas.List.Sums.{sum_by-cons}
 use Rattle.std.proofs.lemmas.Bool.{le-leb, and_from}
 use Rattle.parts.specs.Entries.{delivered, costs_of}
 use Rattle.parts.specs.Listings.{Listing, fits, with_entry}
@@ -11,7 +11,8 @@ use Rattle.wire.specs.Messages.{lengths_in, messages_in}
 use Rattle.wire.specs.declared.messages.Messages.{Messages}
 use Rattle.wire.specs.Splitting.{cut, joined}
 use Rattle.wire.proofs.Cuts.{lengths-more}
-use Rattle.wire.proofs.MessageLemmas.{joined-messages}
+use Rattle.wire.proofs.Exactly.{length_cut}
+use Rattle.wire.proofs.MessageLemmas.{joined-messages_in, sum-lengths_in}
 use Rattle.account.specs.Delivering.{entries_from, all_fit, with_all}
 
 length-entries : (n : ℕ) (ms : List (List ℕ)) → length (entries_from n ms) ≡ length ms
@@ -24,10 +25,6 @@ unfolding entries_from
 costs_entries n [] = refl
 costs_entries n (m ∷ ms) = omega (arith, costs_entries (n + 1) ms, length-append m (joined ms))
 
-length_cut : (ns bytes : List ℕ) → length (cut ns bytes) ≡ length ns
-length_cut [] bytes = refl
-length_cut (n ∷ ns) bytes = ap suc (length_cut ns (drop n bytes))
-
 -- there are as many messages as lengths
 pub as_many : (m : Messages) → length (messages_in m) ≡ length m.lengths.now
 as_many m = length_cut (lengths_in m) m.bytes.now ∙ length-map m.lengths.now (λ four. be 4 four 0)
@@ -37,7 +34,7 @@ pub fit_by : (l : Listing) (first : ℕ) (m : Messages)
     → all_fit l (entries_from first (messages_in m)) ≡ (leb (length m.lengths.now) l.entries_left && leb (length m.bytes.now) l.bytes_left)
 fit_by l first m =
     ap (λ n. leb n l.entries_left && leb (costs_of (entries_from first (messages_in m))) l.bytes_left) (length-entries first (messages_in m) ∙ as_many m)
-    ∙ ap (λ n. leb (length m.lengths.now) l.entries_left && leb n l.bytes_left) (costs_entries first (messages_in m) ∙ ap length (joined-messages m))
+    ∙ ap (λ n. leb (length m.lengths.now) l.entries_left && leb n l.bytes_left) (costs_entries first (messages_in m) ∙ ap length (joined-messages_in m))
 
 -- The outlet stands at l, the next message has this number, and these lengths and bytes are left of all.
 pub record Left (target l : Listing) (number : ℕ) (lens bytes : List ℕ) : Type 0 where
@@ -51,7 +48,7 @@ pub all_left : (l : Listing) (first : ℕ) (m : Messages) → length m.lengths.n
     → Left (with_all l (entries_from first (messages_in m))) l (first + 0) (lengths_in m) m.bytes.now
 all_left l first m room space =
     record {
-      whole = sum-map (λ four. be 4 four 0) m.lengths.now ∙ m.whole;
+      whole = sum-lengths_in m;
       room = omega (arith, length-map m.lengths.now (λ four. be 4 four 0));
       space = space;
       rest = let same : first + 0 ≡ first = omega arith in ap (λ n. with_all l (entries_from n (messages_in m))) same;

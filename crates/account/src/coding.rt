@@ -32,7 +32,8 @@ pub(crate) fn open_body<'a, C: OpeningCoder>(
     plain: &'a mut [u8; BODY_ROOM],
     coder: &C,
 ) -> Result<Body<'a>, Refusal>
-    ensures { opened_to result ≡ plain_of (coder_of (C.ready coder.now) (C.opens coder.now)) packet coded.entry.bytes.now }
+    ensures { opened_to result
+        ≡ plain_of (coder_of (C.ready coder.now) (C.opens coder.now)) packet coded.entry.bytes.now }
 {
     let bytes = &mut plain[..coded.bytes.len()];
     bytes.copy_from_slice(coded.bytes);

@@ -31,7 +31,10 @@ pub(crate) fn join(
     partials: &mut Partials<'_>,
     joining: &mut [u8; BODY_ROOM],
 ) -> Result<Joined, Refusal>
-    ensures { JoinedTo (comes_to (partials_of partials.old) arrival.entry.packet arrival.entry.datagram.now) arrival.entry.packet arrival.entry.datagram.now (partials_of partials.old) result (partials_of partials.new) joining.new }
+    ensures { JoinedTo
+        (comes_to (partials_of partials.old) arrival.entry.packet arrival.entry.datagram.now)
+        arrival.entry.packet arrival.entry.datagram.now
+        (partials_of partials.old) result (partials_of partials.new) joining.new }
 {
     let packet = arrival.packet;
     let piece = &arrival.datagram[packet.start..packet.end];

@@ -21,6 +21,8 @@ use partials::{Joined, Partials};
 use parts::{OpeningCoder, Outlet, Shelf};
 use wire::{Reading, read, split};
 
+// The lent parts stay apart. With a struct of them, each contract says besides of every `&mut` that it is still the same
+// one, and the check makes no proof of arrive.
 impl Account {
     // Opens, splits and places a whole packet.
     #[tactic(auto, unfolding(crate::specs::Arriving::whole_of))]
@@ -108,9 +110,9 @@ impl Account {
             return Err(read.unwrap_err());
         };
         match reading {
-            Reading::Heartbeat { sender: _ } => Ok(Answer::Heartbeat),
-            Reading::StreamHeartbeat { sender: _, last } => self.beat(last),
-            Reading::StreamEnd { sender: _, last } => self.end_at(last),
+            Reading::Heartbeat { .. } => Ok(Answer::Heartbeat),
+            Reading::StreamHeartbeat { last, .. } => self.beat(last),
+            Reading::StreamEnd { last, .. } => self.end_at(last),
             Reading::Data(packet) => {
                 let arrival = Arrival { packet, datagram };
                 self.take_data(arrival, joining, plain, shelf, partials, outlet, coder)
@@ -138,12 +140,9 @@ impl Account {
         ensures joining { joining.new ≡ wiped joining.old plain.old joining.old }
         ensures plain { plain.new ≡ wiped joining.old plain.old plain.old }
     {
-        let Some(joining) = joining.as_mut_array::<BODY_ROOM>() else {
-            return Err(Refusal::new(Cause::BufferSize, 0));
-        };
-        let Some(plain) = plain.as_mut_array::<BODY_ROOM>() else {
-            return Err(Refusal::new(Cause::BufferSize, 0));
-        };
+        let wrong_size = Refusal::new(Cause::BufferSize, 0);
+        let joining = joining.as_mut_array::<BODY_ROOM>().ok_or(wrong_size)?;
+        let plain = plain.as_mut_array::<BODY_ROOM>().ok_or(wrong_size)?;
         let answer = self.take_in(datagram, joining, plain, shelf, partials, outlet, coder);
         zero(joining);
         zero(plain);

@@ -112,12 +112,9 @@ impl Account {
         ensures joining { joining.new ≡ wiped joining.old plain.old joining.old }
         ensures plain { plain.new ≡ wiped joining.old plain.old plain.old }
     {
-        let Some(joining) = joining.as_mut_array::<BODY_ROOM>() else {
-            return Err(Refusal::new(Cause::BufferSize, 0));
-        };
-        let Some(plain) = plain.as_mut_array::<BODY_ROOM>() else {
-            return Err(Refusal::new(Cause::BufferSize, 0));
-        };
+        let wrong_size = Refusal::new(Cause::BufferSize, 0);
+        let joining = joining.as_mut_array::<BODY_ROOM>().ok_or(wrong_size)?;
+        let plain = plain.as_mut_array::<BODY_ROOM>().ok_or(wrong_size)?;
         let answer = self.release_lowest(shelf, outlet, plain);
         zero(joining);
         zero(plain);

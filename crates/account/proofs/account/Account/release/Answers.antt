@@ -1,23 +1,20 @@
-use Rattle.std.proofs.Common.{Err, sym, ap, ◌∙◌}
-use Rattle.std.proofs.lemmas.Bool.{cond-true, cond-false}
-use Rattle.account.specs.Releasing.{release_of}
-use Rattle.account.specs.States.{numbers_of, state_of, done}
+use Rattle.std.proofs.Common.{◌≡◌, false, is_ok, length, sym, ap, ◌∙◌, rules}
+use Rattle.std.proofs.lemmas.Bool.{true≢false, cond-true}
+use Rattle.account.specs.Releasing.{buffers_fit, release_of}
 use Rattle.account.proofs.BothBuffers.{both_fit, second_unfit}
 use Rattle.account.proofs.account.Account.release.Goals as goal
 
-pub returns-in_default-as_mut_array : goal.returns-in_default-as_mut_array
+pub returns-in_err-plain-clause-does : goal.returns-in_err-plain-clause-does
 unfolding release_of
-returns-in_default-as_mut_array g c =
-    let unfit = second_unfit c.args.joining.now c.args.plain.now c.in_default-as_mut_array.ensures.cases in
-    record {
-      does = λ ps gaps.
-          ap (λ e. done (Err e) (state_of (numbers_of c.args.self.now) (g.S.Shelf.holding c.args.shelf.now) ps gaps (g.O.Outlet.listing c.args.outlet.now))) c.new-in_default-as_mut_array.ensures
-          ∙ sym (cond-false _ _ _ unfit);
-      joining = c.in-Some.ensures.cases.same ∙ sym (cond-false _ _ _ unfit);
-      plain = sym (cond-false _ _ _ unfit);
-    }
+returns-in_err-plain-clause-does g c ps gaps =
+    let unfit : buffers_fit c.args.joining.now c.args.plain.now ≡ false =
+    second_unfit c.args.joining.now c.args.plain.now
+    (λ long. true≢false (sym (c.as_mut_array-2.ensures.variant.1 long) ∙ sym c.ok_or-2.ensures.variant ∙ ap is_ok c.in_err-plain.was)) in
+    search rules
 
 pub returns-clause-does : goal.returns-clause-does
 unfolding release_of
 returns-clause-does g c ps gaps =
-    c.release_lowest-answer.ensures ps gaps ∙ sym (cond-true _ _ _ (both_fit c.args.joining.now c.args.plain.now c.in-Some.ensures.cases.long c.in-Some-as_mut_array.ensures.cases.long))
+    let first : length c.args.joining.now ≡ 4096 = c.as_mut_array.ensures.variant.0 (sym c.ok_or.ensures.variant ∙ ap is_ok c.in_ok-joining.was) in
+    let second : length c.args.plain.now ≡ 4096 = c.as_mut_array-2.ensures.variant.0 (sym c.ok_or-2.ensures.variant ∙ ap is_ok c.in_ok-plain.was) in
+    c.release_lowest-answer.ensures ps gaps ∙ sym (cond-true _ _ _ (both_fit c.args.joining.now c.args.plain.now first second))

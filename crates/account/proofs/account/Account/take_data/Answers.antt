@@ -1,4 +1,4 @@
-use Rattle.std.proofs.Common.{◌≡◌, is_some, Ok, Err, sym, ap, ◌∙◌, subst}
+use Rattle.std.proofs.Common.{◌≡◌, is_some, Ok, Err, sym, ap, ◌∙◌, subst, arith}
 use Rattle.partials.specs.Joining.{again, kept, whole, refused, bytes_of}
 use Rattle.partials.specs.Meaning.{partials_of}
 use Rattle.account.specs.Arriving.{Coder, coder_of, with_partials, comes_to, ended_by, ends_if_ok, whole_of}
@@ -16,7 +16,7 @@ returns-in_default g c gaps =
     let o = comes_to s.partials p d in
     let came = came_refused p d c.join-joined.new.joining s.partials (partials_of c.join-joined.new.partials) o c.unwrap_err.result
     (subst (λ r. JoinedTo o p d s.partials r (partials_of c.join-joined.new.partials) c.join-joined.new.joining) c.unwrap_err.ensures c.join-joined.ensures) in
-    ap (λ ps. done (Err c.unwrap_err.result) (with_partials s ps)) came.1 ∙ data_by _ s p d c.if-arrival-self.false (refused c.unwrap_err.result) came.0
+    ap (λ ps. done (Err c.unwrap_err.result) (with_partials s ps)) came.1 ∙ data_by _ s p d (omega arith) (refused c.unwrap_err.result) came.0
 
 pub returns-in-Again : goal.returns-in-Again
 returns-in-Again g c gaps =
@@ -26,7 +26,7 @@ returns-in-Again g c gaps =
     let o = comes_to s.partials p d in
     let came = came_again p d c.join-joined.new.joining s.partials (partials_of c.join-joined.new.partials) o
     (subst (λ r. JoinedTo o p d s.partials r (partials_of c.join-joined.new.partials) c.join-joined.new.joining) (c.in-Ok.is ∙ ap Ok c.in-Again.is) c.join-joined.ensures) in
-    ap (λ ps. done (Ok answers.FragmentAgain) (with_partials s ps)) came.1 ∙ data_by _ s p d c.if-arrival-self.false again came.0
+    ap (λ ps. done (Ok answers.FragmentAgain) (with_partials s ps)) came.1 ∙ data_by _ s p d (omega arith) again came.0
 
 pub returns-in-Kept : goal.returns-in-Kept
 returns-in-Kept g c gaps =
@@ -35,7 +35,7 @@ returns-in-Kept g c gaps =
     let d = c.args.arrival.datagram.now in
     let o = comes_to s.partials p d in
     let qs = partials_of c.join-joined.new.partials in
-    data_by _ s p d c.if-arrival-self.false (kept qs (bytes_of o))
+    data_by _ s p d (omega arith) (kept qs (bytes_of o))
     (came_kept p d c.join-joined.new.joining s.partials qs o
     (subst (λ r. JoinedTo o p d s.partials r qs c.join-joined.new.joining) (c.in-Ok.is ∙ ap Ok c.in-Kept.is) c.join-joined.ensures))
 
@@ -63,7 +63,7 @@ returns-in_err-taken g c gaps =
     let t = state_of (numbers_of c.take_whole.new.self) (g.S.Shelf.holding c.take_whole.new.shelf) s.partials gaps (g.O.Outlet.listing c.take_whole.new.outlet) in
     let taken : done (Err refusal) t ≡ whole_of coder s p coded = ap (λ r. done r t) (sym c.in_err-taken.was) ∙ c.take_whole.ensures s.partials gaps in
     let same : c.from_residual.result ≡ Err refusal = err_is c.from_residual.result refusal c.from_residual.ensures.1 in
-    (λ i. done (same i) (with_partials t (came.1 i))) ∙ ap (λ x. ends_if_ok x p) taken ∙ data_by coder s p d c.if-arrival-self.false (whole coded) came.0
+    (λ i. done (same i) (with_partials t (came.1 i))) ∙ ap (λ x. ends_if_ok x p) taken ∙ data_by coder s p d (omega arith) (whole coded) came.0
 
 pub returns : goal.returns
 returns g c gaps =
@@ -80,4 +80,4 @@ returns g c gaps =
     let taken : done (Ok c.in_ok-taken.taken) t ≡ whole_of coder s p coded = ap (λ r. done r t) (sym c.in_ok-taken.was) ∙ c.take_whole.ensures s.partials gaps in
     ap (λ ps. done (Ok c.in_ok-taken.taken) (with_partials t ps)) (c.end_joined.ensures ∙ ap (ended_by p.fragment p) came.1)
     ∙ ap (λ x. ends_if_ok x p) taken
-    ∙ data_by coder s p d c.if-arrival-self.false (whole coded) came.0
+    ∙ data_by coder s p d (omega arith) (whole coded) came.0
