@@ -24,7 +24,7 @@ impl fmt::Display for BadLine {
 
 impl Error for BadLine {}
 
-// All lines of a text, into an area.
+// All lines of a text, into an area, which is lent: nothing here takes memory from a heap.
 fn compose_lines<C: SealingCoder>(
     coder: &C,
     text: &[u8],

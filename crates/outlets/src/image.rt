@@ -10,6 +10,7 @@ pub use calls::image_fits;
 #[derive(Drop)]
 pub struct ImageOutlet<'a> {
     bytes: &'a mut [u8],
+    // Counts beside the lent memory, and no vectors: nothing here takes memory from a heap.
     capacity: usize,
     count: u16,
     used: usize,

@@ -11,6 +11,7 @@ pub use records::{Record, Span};
 #[derive(Drop)]
 pub struct TableOutlet<'a> {
     records: &'a mut [Record],
+    // Counts beside the lent memory, and no vectors: nothing here takes memory from a heap.
     used: usize,
     area: &'a mut [u8],
     filled: usize,

@@ -13,6 +13,7 @@ mod moves;
 #[derive(Drop)]
 pub struct OrderedList<'a, P: Copy> {
     rows: &'a mut [Row<P>],
+    // A count beside the lent memory, and no vector: nothing here takes memory from a heap.
     len: usize,
     ghost fits: { len ≤ length rows.now },
     ghost sorted: { ascends (take len rows.now) ≡ true },

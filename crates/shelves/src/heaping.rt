@@ -13,6 +13,7 @@ mod sifts;
 #[derive(Drop)]
 pub struct Heap<'a> {
     rows: &'a mut [Row<Held>],
+    // A count beside the lent memory, and no vector: nothing here takes memory from a heap.
     len: usize,
     ghost fits: { len ≤ length rows.now },
     ghost apart: { rises (sort_by (take len rows.now)) ≡ true },

@@ -2,7 +2,7 @@
 
 use parts::Entry;
 
-/// A part of the area of bytes.
+/// A part of the area of bytes. It is told by numbers, since a record cannot borrow from the area that lies beside it.
 #[derive(Clone, Copy)]
 pub struct Span {
     pub start: usize,
