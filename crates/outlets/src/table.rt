@@ -2,6 +2,7 @@
 ghost use Rattle.outlets.specs.Tables.{Sound};
 
 mod calls;
+mod mapping;
 mod records;
 
 pub use calls::table_fits;

@@ -1,6 +1,5 @@
 // The entries of an outlet.
 
-mod mapping;
 mod shape;
 
 /// What became of a number, or of all numbers from a first to a last. Where it has a message, `M` is what stands for that:

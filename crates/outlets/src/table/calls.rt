@@ -8,6 +8,7 @@ ghost use Rattle.outlets.specs.Looks.{table_fits};
 ghost use Rattle.outlets.specs.Meaning.{table_meaning, table_capacity};
 ghost use Rattle.outlets.specs.Tables.{part_of, entry_by, record_of, ends_by};
 
+use super::mapping::map_message;
 use super::{Record, Span, TableOutlet};
 use crate::looks::{allowed, look_answer};
 use crate::room::room_for;
@@ -25,7 +26,7 @@ pub fn table_fits(records: usize) -> Result<(), Refusal>
 fn record_of(entry: Entry<&[u8]>, span: Span) -> Record
     ensures { result ≡ record_of (entry_of entry.entry) span }
 {
-    entry.map(|_| span)
+    map_message(entry, |_| span)
 }
 
 // A part of the area.
@@ -41,7 +42,7 @@ fn entry_by(area: &[u8], kept: Record) -> Entry<&[u8]>
     requires { ends_by (length area.now) kept ≡ true }
     ensures { entry_of result ≡ entry_by area.now kept }
 {
-    kept.map(|span| part(area, span))
+    map_message(kept, |span| part(area, span))
 }
 
 impl<'a> TableOutlet<'a> {
