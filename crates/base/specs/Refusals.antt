@@ -1,5 +1,5 @@
 -- The table of refusals: for each cause its number, the layer that refuses, and what the value beside it is.
-use Rattle.std.specs.Prelude.{ℕ, ◌-◌, ◌*◌, Bool, cond, List, [], ◌∷◌, length, Err, Result, slice_index}
+use Rattle.std.specs.Prelude.{ℕ, ◌-◌, ◌*◌, Bool, cond, List, [], ◌∷◌, ◌++◌, length, Err, codes, decimal, Result, slice_index}
 use Rattle.base.specs.declared.refusal.Layer.{Layer}
 use Rattle.base.specs.declared.refusal.Layer.TheVariants.{Reading, Joining, Coding, Splitting, Placing, Call}
 use Rattle.base.specs.declared.refusal.Returned.{Returned}
@@ -50,6 +50,10 @@ rule_of PartSize = ruled 73 Call Zero
 rule_of Capture = ruled 81 Call Record
 rule_of PackArgument = ruled 91 Call Zero
 rule_of SealNotReady = ruled 92 Call Zero
+
+-- A refusal as text: the cause's number and the value.
+abbrev pub refusal_text : Refusal → List ℕ
+refusal_text r = decimal (rule_of r.cause).number ++ (codes " " ++ decimal r.value)
 
 -- The value beside a cause that a datagram is refused for: a place in it, or 0 where the cause names none.
 abbrev pub place_in : List ℕ → Returned → ℕ

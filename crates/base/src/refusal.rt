@@ -1,6 +1,6 @@
 // Why something is refused: the causes, and for each its number, its layer and the value that comes with it.
-ghost use Rattle.std.specs.Prelude.{◌≡◌};
-ghost use Rattle.base.specs.Refusals.{rule_of};
+ghost use Rattle.std.specs.Prelude.{◌≡◌, Some};
+ghost use Rattle.base.specs.Refusals.{rule_of, refusal_text};
 
 use std::error::Error;
 use std::fmt;
@@ -151,6 +151,8 @@ impl Refusal {
 }
 
 impl fmt::Display for Refusal {
+    ghost output = { λ r. Some (refusal_text r) };
+
     fn fmt<W: fmt::Write>(&self, f: &mut fmt::Formatter<W>) -> fmt::Result {
         write!(f, "{} {}", self.cause.number(), self.value)
     }

@@ -35,7 +35,7 @@ fn main(rt: HostRuntime) -> anyhow::Result<()> {
     match composed {
         Ok(size) => Ok(rt.stdout().write_all(&area[..size])?),
         Err(bad) => {
-            eprintln!(rt; "{bad}")?;
+            eprintln!(rt; "{bad}: no capture is written")?;
             Err(anyhow!("no capture is written"))
         }
     }

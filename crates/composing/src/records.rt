@@ -35,6 +35,7 @@ pub(crate) fn put_datagram(out: &mut [u8], datagram: &[u8]) -> Option<usize>
     requires { length datagram.now < 65536 }
     ensures { front_in result out.new ≡ sized (fitting (length out.old) (Some (datagram_record datagram.now))) }
 {
+    // By a pattern, since mark and length are one array of three bytes.
     let [high, low] = (datagram.len() as u16).to_be_bytes();
     let start = write_at(out, 0, &[1, high, low])?;
     write_at(out, start, datagram)
@@ -69,6 +70,7 @@ fn put_hex(word: &[u8], out: &mut [u8]) -> Option<usize>
         return None;
     }
     let size = hex_into(word, &mut out[3..])?;
+    // By a pattern, as for a datagram.
     let [high, low] = u16::try_from(size).ok()?.to_be_bytes();
     let start = write_at(out, 0, &[1, high, low])?;
     Some(start + size)

@@ -1,5 +1,5 @@
 // A capture from all lines of a text.
-ghost use Rattle.std.specs.Prelude.{◌≡◌, ◌≤◌, IfOk};
+ghost use Rattle.std.specs.Prelude.{◌≡◌, ◌≤◌, ◌++◌, IfOk, Some, codes, decimal};
 ghost use Rattle.composing.specs.Lines.{composed_of, capture_in, size_in, area_after};
 
 use crate::kinds::{put_line, stage_after};
@@ -17,8 +17,10 @@ pub struct BadLine {
 }
 
 impl fmt::Display for BadLine {
+    ghost output = { λ b. Some (codes "line " ++ (decimal b.line ++ codes " is bad")) };
+
     fn fmt<W: fmt::Write>(&self, f: &mut fmt::Formatter<W>) -> fmt::Result {
-        write!(f, "line {} is bad: no capture is written", self.line)
+        write!(f, "line {} is bad", self.line)
     }
 }
 

@@ -6,7 +6,7 @@ use base::limits::MAX_ENTRIES;
 use base::{Cause, Refusal};
 
 // Whether an outlet may have room for this many entries: 1 to 65,535.
-pub(crate) fn allowed(entries: usize) -> bool
+pub(crate) fn is_allowed(entries: usize) -> bool
     ensures { result ≡ allowed entries }
 {
     (1..=MAX_ENTRIES).contains(&entries)

@@ -3,8 +3,6 @@ ghost use Rattle.std.specs.Prelude.{◌≡◌, ◌≤◌, true, length, take};
 ghost use Rattle.rows.specs.Order.{ascends};
 
 use crate::row::Row;
-use std::error::Error;
-use std::fmt;
 
 mod calls;
 mod moves;
@@ -22,11 +20,3 @@ pub struct OrderedList<'a, P: Copy> {
 /// No row is free.
 #[derive(Clone, Copy, Debug)]
 pub struct Full;
-
-impl fmt::Display for Full {
-    fn fmt<W: fmt::Write>(&self, f: &mut fmt::Formatter<W>) -> fmt::Result {
-        f.write_str("no row is free")
-    }
-}
-
-impl Error for Full {}

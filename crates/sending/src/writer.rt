@@ -9,7 +9,7 @@ use base::{adler32, zero_from};
 pub(crate) struct Writer<'a> {
     buffer: &'a mut [u8],
     len: usize,
-    // No array type: the library's `try_from` to `&mut [u8; N]` does not say what the slice is afterwards.
+    // A slice and no array: the check makes no proof of `finish` over a lent array.
     ghost sized: { length buffer.now ≡ 1472 },
     ghost within: { len ≤ 1472 },
 }

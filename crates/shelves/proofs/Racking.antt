@@ -6,10 +6,10 @@ use Rattle.base.specs.Limits.{body_room}
 use Rattle.rows.specs.Order.{rises, row_of, insert_by, remove_by}
 use Rattle.rows.specs.declared.row.Row.{Row}
 use Rattle.rows.proofs.Rises.{rises-insert, rises-remove}
-use Rattle.shelves.specs.Racks.{Stock, Racked, tidy, free_place}
+use Rattle.shelves.specs.Racks.{Stock, Racked, tidy}
 use Rattle.shelves.specs.declared.held.Held.{Held}
 use Rattle.shelves.proofs.Counting.{length-inserted, length-removed}
-use Rattle.shelves.proofs.Tidying.{tidy-put, tidy-out}
+use Rattle.shelves.proofs.Tidying.{free_place, tidy-put, tidy-out}
 
 module _ (s t : Stock) (h : Racked s) (room : t.room ≡ s.room) (same : length t.bytes ≡ length s.bytes) where
   -- a row put in use

@@ -10,12 +10,12 @@ use Rattle.base.specs.declared.refusal.Refusal.{Refusal}
 use Rattle.parts.specs.Holdings.{Holding, Packet, pair_of, sizes_of, hold_answer, holds, take_leaves}
 use Rattle.rows.specs.Order.{row_of, insert_by, remove_by}
 use Rattle.rows.specs.declared.row.Row.{Row}
-use Rattle.shelves.specs.Racks.{bytes_at, pair_for, sizes_for, sum_by, has_place, free_place, Stock, Racked, holding_of}
+use Rattle.shelves.specs.Racks.{bytes_at, pair_for, sizes_for, sum_by, has_place, Stock, Racked, holding_of}
 use Rattle.shelves.specs.Sounds.{length_pairs}
 use Rattle.shelves.specs.declared.held.Held.{Held}
 use Rattle.shelves.proofs.Places.{body-written, length_front}
 use Rattle.shelves.proofs.Places.{other_place as bytes-elsewhere}
-use Rattle.shelves.proofs.Tidying.{same_place, row_fits, Put, tidy-put}
+use Rattle.shelves.proofs.Tidying.{free_place, same_place, row_fits, Put, tidy-put}
 
 module _ (bytes : List ℕ) where
   pub pairs-insert : (r : Row Held) (rows : List (Row Held)) → map (pair_for bytes) (insert_by r rows) ≡ insert_by (pair_for bytes r) (map (pair_for bytes) rows)

@@ -7,8 +7,13 @@ use Rattle.base.specs.Limits.{body_room}
 use Rattle.rows.specs.Order.{row_of, insert_by, remove_by}
 use Rattle.rows.specs.declared.row.Row.{Row}
 use Rattle.rows.proofs.Rises.{remove_absent}
-use Rattle.shelves.specs.Racks.{sum_by, has_place, misfit, tidy, free_place}
+use Rattle.shelves.specs.Racks.{sum_by, has_place, misfit, tidy}
 use Rattle.shelves.specs.declared.held.Held.{Held}
+
+-- the place that a spare row has
+abbrev pub free_place : Option (Row Held) → ℕ
+free_place None = 0
+free_place (Some r) = r.part.place
 
 -- sums over rows that are joined, put in and taken out
 pub sum-append : (f : Row Held → ℕ) (xs ys : List (Row Held)) → sum_by f (xs ++ ys) ≡ sum_by f xs + sum_by f ys

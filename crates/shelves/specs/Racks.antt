@@ -1,5 +1,5 @@
 -- The rows and bytes of a shelf: each row has a place of its own in the bytes, and stands for a pair.
-use Rattle.std.specs.Prelude.{◌≡◌, ℕ, ◌+◌, ◌*◌, ◌≤◌, Bool, true, cond, ◌&&◌, List, [], ◌∷◌, ◌++◌, map, length, take, drop, Some, None, Ok, Err, Option, Result, ◌==◌, nat_le, nat_lt}
+use Rattle.std.specs.Prelude.{◌≡◌, ℕ, ◌+◌, ◌*◌, ◌≤◌, Bool, true, cond, ◌&&◌, List, [], ◌∷◌, ◌++◌, map, length, take, drop, Ok, Err, Result, ◌==◌, nat_le, nat_lt}
 use Rattle.base.specs.Limits.{body_room, max_places}
 use Rattle.base.specs.declared.refusal.Cause.TheVariants.{PartSize}
 use Rattle.base.specs.declared.refusal.Refusal.{Refusal}
@@ -42,10 +42,6 @@ holding_of s = record { pairs = map (pair_for s.bytes) s.rows; places = s.room }
 
 abbrev pub sizes_for : Held → Sizes
 sizes_for h = record { count = h.count; length = h.size }
-
-abbrev pub free_place : Option (Row Held) → ℕ
-free_place None = 0
-free_place (Some r) = r.part.place
 
 -- The sum of a number of each row; how many rows have a place.
 abbrev pub sum_by : (Row Held → ℕ) → List (Row Held) → ℕ

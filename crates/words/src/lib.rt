@@ -57,6 +57,7 @@ impl<'a> Model for Lines<'a> {
 }
 
 impl<'a> Lines<'a> {
+    /// All lines of a text.
     #[tactic(auto, using(crate::proofs::Lists::lines_count))]
     pub fn new(text: &'a [u8]) -> Self
         ensures lines { result ≡ lines_of text.now }
@@ -96,6 +97,7 @@ impl<'a> Model for Words<'a> {
 }
 
 impl<'a> Words<'a> {
+    /// All words of a line.
     #[tactic(auto, using(crate::proofs::Lists::words_count))]
     pub fn new(line: &'a [u8]) -> Self
         ensures words { result ≡ words_of line.now }

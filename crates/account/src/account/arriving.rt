@@ -1,5 +1,5 @@
-// What a datagram comes to, layer by layer. Each layer's answer is taken by a `let .. else` of its own and not by `?`, so
-// that it is seen where a refusal leaves.
+// What a datagram comes to, layer by layer. The answers of reading, joining, coding and splitting are each taken by a
+// `let .. else` and not by `?`, so that it is seen where a refusal leaves.
 ghost use Rattle.std.specs.Prelude.{◌≡◌, List};
 ghost use Rattle.partials.specs.Joining.{Partial};
 ghost use Rattle.partials.specs.Meaning.{partials_of};

@@ -8,7 +8,7 @@ ghost use Rattle.outlets.specs.Looks.{image_fits};
 ghost use Rattle.outlets.specs.Meaning.{image_meaning, image_capacity};
 
 use super::ImageOutlet;
-use crate::looks::{allowed, look_answer};
+use crate::looks::{is_allowed, look_answer};
 use crate::room::room_for;
 use base::{Refusal, write_at, zero};
 use parts::{Entry, Outlet};
@@ -37,7 +37,7 @@ fn messages_at(capacity: usize) -> usize
 pub fn image_fits(memory: usize, capacity: usize) -> Result<(), Refusal>
     ensures { result ≡ image_fits memory capacity }
 {
-    look_answer(allowed(capacity) && memory >= messages_at(capacity))
+    look_answer(is_allowed(capacity) && memory >= messages_at(capacity))
 }
 
 impl<'a> ImageOutlet<'a> {

@@ -10,7 +10,7 @@ ghost use Rattle.outlets.specs.Tables.{part_of, entry_by, record_of, ends_by};
 
 use super::mapping::map_message;
 use super::{Record, Span, TableOutlet};
-use crate::looks::{allowed, look_answer};
+use crate::looks::{is_allowed, look_answer};
 use crate::room::room_for;
 use base::{Refusal, write_at};
 use parts::{Entry, Outlet};
@@ -19,7 +19,7 @@ use parts::{Entry, Outlet};
 pub fn table_fits(records: usize) -> Result<(), Refusal>
     ensures { result ≡ table_fits records }
 {
-    look_answer(allowed(records))
+    look_answer(is_allowed(records))
 }
 
 // The record of an entry whose message stands at a part of the area.

@@ -2,8 +2,9 @@ use Rattle.std.proofs.Common.{is_some, Err, sym, refl, ap, ◌∙◌, arith}
 use Rattle.parts.specs.Holdings.{pair_of}
 use Rattle.rows.specs.Order.{row_of}
 use Rattle.rows.proofs.Rises.{none_of}
-use Rattle.shelves.specs.Racks.{free_place, holding_of, stock_of}
+use Rattle.shelves.specs.Racks.{holding_of, stock_of}
 use Rattle.shelves.proofs.Racking.{racked-put}
+use Rattle.shelves.proofs.Tidying.{free_place}
 use Rattle.shelves.proofs.Shelving.{Putting, hold_present, hold_full, hold_refused, none_first, some_first, put_inside, put_answer, put_after}
 use Rattle.shelves.proofs.shelf.LentShelfShelf.put.Goals as goal
 
