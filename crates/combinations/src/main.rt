@@ -1,7 +1,7 @@
 // Runs one script over every shelf with every outlet. What it prints is the same for all of them.
 #![tactic(auto)]
 
-use anyhow::anyhow;
+use anyhow::Context;
 use outlets::{ImageOutlet, Record, TableOutlet, image_fits, table_fits};
 use parts::{Outlet, Shelf};
 use rows::Row;
@@ -64,8 +64,8 @@ fn over_both_outlets<S: Shelf>(
     let mut records = [Record::Closed(0); ENTRIES];
     let mut area = [0; MESSAGE_BYTES];
     let mut memory = [0; IMAGE_BYTES];
-    table_fits(records.len()).map_err(|_| anyhow!("the memory does not fit an outlet"))?;
-    image_fits(memory.len(), ENTRIES).map_err(|_| anyhow!("the memory does not fit an outlet"))?;
+    table_fits(records.len()).context("the memory does not fit an outlet")?;
+    image_fits(memory.len(), ENTRIES).context("the memory does not fit an outlet")?;
     println!(rt; "with a table")?;
     let mut table = TableOutlet::new(&mut records, &mut area);
     script(rt, shelf, &mut table)?;
@@ -88,7 +88,7 @@ fn main(rt: HostRuntime) -> anyhow::Result<()> {
     let mut other_rows = [empty; PLACES];
     let mut bytes = [0; SHELF_BYTES];
     let mut other_bytes = [0; SHELF_BYTES];
-    shelf_fits(rows.len(), bytes.len()).map_err(|_| anyhow!("the memory does not fit a shelf"))?;
+    shelf_fits(rows.len(), bytes.len()).context("the memory does not fit a shelf")?;
     println!(rt; "rows in order")?;
     let mut ordered = OrderedShelf::new(&mut rows, &mut bytes);
     let mut other_ordered = OrderedShelf::new(&mut other_rows, &mut other_bytes);

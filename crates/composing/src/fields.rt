@@ -15,11 +15,7 @@ pub(crate) fn is_blank(line: &[u8]) -> bool
 pub(crate) fn field(word: &[u8], most: u64) -> Option<u64>
     ensures { result ≡ up_to most (number_of word.now) }
 {
-    let n = number(word)?;
-    if n > most {
-        return None;
-    }
-    Some(n)
+    number(word).filter(|n| *n <= most)
 }
 
 // The only word that is left on a line.

@@ -2,7 +2,7 @@
 // `samples/image.py` writes.
 #![tactic(auto)]
 
-use anyhow::anyhow;
+use anyhow::Context;
 use base::Refusal;
 use outlets::{ImageOutlet, image_fits};
 use parts::{Entry, Outlet};
@@ -23,9 +23,9 @@ fn put_all<O: Outlet>(outlet: &mut O) -> Result<(), Refusal> {
 fn main(rt: HostRuntime) -> anyhow::Result<()> {
     let expected = fs::read(&rt, "five_kinds.image")?;
     let mut memory = [255; SIZE];
-    image_fits(memory.len(), CAPACITY).map_err(|_| anyhow!("the memory does not fit an image"))?;
+    image_fits(memory.len(), CAPACITY).context("the memory does not fit an image")?;
     let mut outlet = ImageOutlet::new(&mut memory, CAPACITY);
-    put_all(&mut outlet).map_err(|_| anyhow!("the image is full"))?;
+    put_all(&mut outlet).context("the image is full")?;
     if outlet.view() == expected.as_slice() {
         println!(rt; "the image is equal to the expected one")?;
     } else {

@@ -79,10 +79,8 @@ impl<R: Rack> Shelf for LentShelf<'_, R> {
         if self.rack.find(first).is_some() {
             return Err(Refusal::new(Cause::AlreadyHeld, 0));
         }
-        // No `ok_or(..)?`: the refusal stands where it is given.
-        let Some(spare) = self.rack.spare() else {
-            return Err(Refusal::new(Cause::ShelfFull, first));
-        };
+        let full = Refusal::new(Cause::ShelfFull, first);
+        let spare = self.rack.spare().ok_or(full)?;
         let place = spare.part.place;
         let size = body.len() as u16;
         let part = Held { count, size, place };

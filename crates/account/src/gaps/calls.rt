@@ -12,7 +12,7 @@ use rows::{Full, OrderedList, Row};
 pub fn gaps_fit(rows: usize) -> Result<(), Refusal>
     ensures { result ≡ gaps_fit rows }
 {
-    if rows < 1 || rows > MAX_GAPS {
+    if !(1..=MAX_GAPS).contains(&rows) {
         return Err(Refusal::new(Cause::PartSize, 0));
     }
     Ok(())

@@ -12,7 +12,7 @@ use rows::Row;
 pub fn shelf_fits(rows: usize, bytes: usize) -> Result<(), Refusal>
     ensures { result ≡ shelf_fits rows bytes }
 {
-    if rows < 1 || rows > MAX_PLACES || bytes != BODY_ROOM * rows {
+    if !(1..=MAX_PLACES).contains(&rows) || bytes != BODY_ROOM * rows {
         return Err(Refusal::new(Cause::PartSize, 0));
     }
     Ok(())
