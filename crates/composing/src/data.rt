@@ -55,10 +55,7 @@ fn put_part(part: Part, word: &[u8], out: &mut [u8]) -> Option<usize>
     match part {
         Part::Content => put_message(word, out),
         Part::Size => {
-            let size = message_size(word)?;
-            if size > MAX_MESSAGE {
-                return None;
-            }
+            let size = message_size(word).filter(|size| *size <= MAX_MESSAGE)?;
             put(out, &(size as u32).to_be_bytes())
         }
     }
@@ -84,55 +81,26 @@ fn put_plain(line: &[u8], out: &mut [u8]) -> Option<usize>
     Some(sizes + contents)
 }
 
-fn marked(duplicate: bool, sealed: bool, checksum: bool) -> Option<Marks>
-    ensures { result ≡ Some (record { duplicate = duplicate; sealed = sealed; checksum = checksum }) }
+#[tactic(auto, unfolding(crate::specs::Data::marks_of))]
+fn marks_of(word: &[u8]) -> Option<Marks>
+    ensures { result ≡ marks_of word.now }
 {
+    let (duplicate, sealed, checksum) = match word {
+        b"-" => (false, false, false),
+        b"d" => (true, false, false),
+        b"s" => (false, true, false),
+        b"c" => (false, false, true),
+        b"ds" => (true, true, false),
+        b"dc" => (true, false, true),
+        b"sc" => (false, true, true),
+        b"dsc" => (true, true, true),
+        _ => return None,
+    };
     Some(Marks {
         duplicate,
         sealed,
         checksum,
     })
-}
-
-#[tactic(auto, unfolding(crate::specs::Data::marks_of))]
-fn marks_of(word: &[u8]) -> Option<Marks>
-    ensures { result ≡ marks_of word.now }
-{
-    match word {
-        b"-" => marked(false, false, false),
-        b"d" => marked(true, false, false),
-        b"s" => marked(false, true, false),
-        b"c" => marked(false, false, true),
-        b"ds" => marked(true, true, false),
-        b"dc" => marked(true, false, true),
-        b"sc" => marked(false, true, true),
-        b"dsc" => marked(true, true, true),
-        _ => None,
-    }
-}
-
-fn packing_from(
-    from: u8,
-    channel: u16,
-    first: u64,
-    count: u16,
-    marks: Marks,
-    piece_size: usize,
-    fragment: u16,
-) -> Packing
-    ensures { result ≡ record { sender = from; channel = channel; first = first; count = count; duplicate = marks.duplicate; sealed = marks.sealed; checksum = marks.checksum; piece_size = piece_size; «fragment» = fragment } }
-{
-    Packing {
-        sender: from,
-        channel,
-        first,
-        count,
-        duplicate: marks.duplicate,
-        sealed: marks.sealed,
-        checksum: marks.checksum,
-        piece_size,
-        fragment,
-    }
 }
 
 #[tactic(auto, unfolding(crate::specs::Data::packing_of))]
@@ -149,15 +117,17 @@ fn packing_of(channel: u16, count: u16, rest: &[u8]) -> Option<Packing>
     let size = u16::try_from(number(word)?).ok()?;
     let (word, _) = split_word(rest);
     let fragment = u16::try_from(number(word)?).ok()?;
-    Some(packing_from(
+    Some(Packing {
         sender,
         channel,
         first,
         count,
-        marks,
-        usize::from(size),
+        duplicate: marks.duplicate,
+        sealed: marks.sealed,
+        checksum: marks.checksum,
+        piece_size: usize::from(size),
         fragment,
-    ))
+    })
 }
 
 fn after_five(rest: &[u8]) -> &[u8]

@@ -1,9 +1,9 @@
-// The numbers of a line.
-ghost use Rattle.std.specs.Prelude.{◌≡◌};
-ghost use Rattle.words.specs.Words.{is_blank, number_of};
-ghost use Rattle.composing.specs.Composing.{up_to, last_field, last_two};
+// The words of a line.
+ghost use Rattle.std.specs.Prelude.{◌≡◌, if◌then◌else◌, Some, None};
+ghost use Rattle.std.specs.Option.{option_map};
+ghost use Rattle.words.specs.Words.{is_blank, after_word, word_of};
 
-use words::{number, split_word};
+use words::split_word;
 
 pub(crate) fn is_blank(line: &[u8]) -> bool
     ensures { result ≡ is_blank line.now }
@@ -12,29 +12,10 @@ pub(crate) fn is_blank(line: &[u8]) -> bool
     word.is_empty()
 }
 
-pub(crate) fn field(word: &[u8], most: u64) -> Option<u64>
-    ensures { result ≡ up_to most (number_of word.now) }
-{
-    number(word).filter(|n| *n <= most)
-}
-
 // The only word that is left on a line.
-pub(crate) fn last_field(line: &[u8], most: u64) -> Option<u64>
-    ensures { result ≡ last_field most line.now }
+pub(crate) fn last_word(line: &[u8]) -> Option<&[u8]>
+    ensures { option_map (λ word. word.now) result ≡ (if is_blank (after_word line.now) then Some (word_of line.now) else None) }
 {
     let (word, rest) = split_word(line);
-    if !is_blank(rest) {
-        return None;
-    }
-    field(word, most)
-}
-
-// The only two words that are left on a line.
-pub(crate) fn last_two(line: &[u8], most: u64, next: u64) -> Option<(u64, u64)>
-    ensures { result ≡ last_two most next line.now }
-{
-    let (word, rest) = split_word(line);
-    let first = field(word, most)?;
-    let second = last_field(rest, next)?;
-    Some((first, second))
+    is_blank(rest).then_some(word)
 }

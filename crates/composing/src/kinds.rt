@@ -5,12 +5,12 @@ ghost use Rattle.composing.specs.Composing.{front_in, sized};
 ghost use Rattle.composing.specs.Lines.{is_idle, opening_of, header_for, header_of, record_of, by_stage, added_by, moved_on, stage_after};
 
 use crate::data::put_data;
-use crate::fields::{is_blank, last_two};
+use crate::fields::{is_blank, last_word};
 use crate::records::{
     STREAM_END, STREAM_HEARTBEAT, put, put_heartbeat, put_judge, put_raw, put_stream,
 };
 use parts::SealingCoder;
-use words::split_word;
+use words::{number, split_word};
 
 fn is_comment(line: &[u8]) -> bool
     ensures { result ≡ (slice_index line.now 0 == 35) }
@@ -60,9 +60,10 @@ fn header(channel: u16, start: u64) -> [u8; 15]
 fn opening(rest: &[u8]) -> Option<(u16, u64)>
     ensures { result ≡ opening_of rest.now }
 {
-    // `as`, since the limit is tested: `try_from` would bring an error that cannot come.
-    let (channel, start) = last_two(rest, 65_535, u64::MAX)?;
-    Some((channel as u16, start))
+    let (word, rest) = split_word(rest);
+    let channel = u16::try_from(number(word)?).ok()?;
+    let start = number(last_word(rest)?)?;
+    Some((channel, start))
 }
 
 #[tactic(auto, unfolding(crate::specs::Lines::header_of))]

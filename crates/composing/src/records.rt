@@ -3,10 +3,10 @@ ghost use Rattle.std.specs.Prelude.{◌≡◌, ◌<◌, length, Some, None};
 ghost use Rattle.words.specs.Words.{fitting};
 ghost use Rattle.composing.specs.Composing.{front_in, sized, judge_record, datagram_record, control_head, control_for, judge_of, hex_record, raw_of, heartbeat_of, stream_of};
 
-use crate::fields::{is_blank, last_field, last_two};
+use crate::fields::{is_blank, last_word};
 use base::limits::MAX_NUMBER;
 use base::{adler32, write_at};
-use words::{hex_into, split_word};
+use words::{hex_into, number, split_word};
 
 // Writes a part to the front of an area.
 pub(crate) fn put(out: &mut [u8], part: &[u8]) -> Option<usize>
@@ -27,7 +27,7 @@ fn judge_record(k: u64) -> [u8; 9]
 pub(crate) fn put_judge(rest: &[u8], out: &mut [u8]) -> Option<usize>
     ensures { front_in result out.new ≡ sized (fitting (length out.old) (judge_of rest.now)) }
 {
-    let k = last_field(rest, u64::MAX)?;
+    let k = number(last_word(rest)?)?;
     put(out, &judge_record(k))
 }
 
@@ -91,9 +91,8 @@ pub(crate) fn put_raw(rest: &[u8], out: &mut [u8]) -> Option<usize>
 pub(crate) fn put_heartbeat(rest: &[u8], out: &mut [u8]) -> Option<usize>
     ensures { front_in result out.new ≡ sized (fitting (length out.old) (heartbeat_of rest.now)) }
 {
-    // `as`, since the limit is tested: `try_from` would bring an error that cannot come.
-    let sender = last_field(rest, 255)?;
-    put_datagram(out, &control(sender as u8, 0, 0, 0))
+    let sender = u8::try_from(number(last_word(rest)?)?).ok()?;
+    put_datagram(out, &control(sender, 0, 0, 0))
 }
 
 // What tells a stream heartbeat and a stream end apart is the count of messages in their headers.
@@ -105,7 +104,8 @@ pub(crate) const STREAM_END: u16 = 0xFFFF;
 pub(crate) fn put_stream(channel: u16, count: u16, rest: &[u8], out: &mut [u8]) -> Option<usize>
     ensures { front_in result out.new ≡ sized (fitting (length out.old) (stream_of channel count rest.now)) }
 {
-    // `as`, since the limit is tested, as for a heartbeat.
-    let (sender, last) = last_two(rest, 255, MAX_NUMBER)?;
-    put_datagram(out, &control(sender as u8, channel, last, count))
+    let (word, rest) = split_word(rest);
+    let sender = u8::try_from(number(word)?).ok()?;
+    let last = number(last_word(rest)?).filter(|n| *n <= MAX_NUMBER)?;
+    put_datagram(out, &control(sender, channel, last, count))
 }
