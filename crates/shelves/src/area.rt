@@ -14,7 +14,7 @@ pub(crate) fn store(bytes: &mut [u8], place: usize, body: &[u8])
     requires inside { body_room * (place + 1) ≤ length bytes.old }
     ensures { bytes.new ≡ written_at bytes.old (body_room * place) body.now }
 {
-    let _ = write_at(bytes, BODY_ROOM * place, body);
+    write_at(bytes, BODY_ROOM * place, body).unwrap();
 }
 
 // Copies the front of a place, with zeros behind it.
@@ -25,6 +25,6 @@ pub(crate) fn load(bytes: &[u8], place: usize, size: usize, into: &mut [u8])
     ensures { into.new ≡ padded (take size (bytes_at bytes.now place)) }
 {
     let at = BODY_ROOM * place;
-    let _ = write_at(into, 0, &bytes[at..at + size]);
+    write_at(into, 0, &bytes[at..at + size]).unwrap();
     zero_from(into, size);
 }

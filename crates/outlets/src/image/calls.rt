@@ -48,7 +48,7 @@ impl<'a> ImageOutlet<'a> {
         ensures bytes { result.bytes.now ≡ image_of capacity (length memory.old) [] }
     {
         zero(memory);
-        let _ = write_at(memory, 0, &FRONT);
+        write_at(memory, 0, &FRONT).unwrap();
         ImageOutlet {
             bytes: memory,
             capacity,
@@ -75,9 +75,9 @@ impl<'a> ImageOutlet<'a> {
         let count = self.count + 1;
         // Lent once for the three writes, since the memory is no image between them.
         let bytes = &mut *self.bytes;
-        let _ = write_at(bytes, head_at, &entry.head());
-        let _ = write_at(bytes, message_at, message);
-        let _ = write_at(bytes, COUNT_AT, &count.to_be_bytes());
+        write_at(bytes, head_at, &entry.head()).unwrap();
+        write_at(bytes, message_at, message).unwrap();
+        write_at(bytes, COUNT_AT, &count.to_be_bytes()).unwrap();
         self.count = count;
         self.used += message.len();
     }

@@ -77,7 +77,7 @@ impl<'a> TableOutlet<'a> {
             start: self.filled,
             len: message.len(),
         };
-        let _ = write_at(self.area, span.start, message);
+        write_at(self.area, span.start, message).unwrap();
         self.records[self.used] = record_of(entry, span);
         self.used += 1;
         self.filled += message.len();

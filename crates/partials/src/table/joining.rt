@@ -20,9 +20,9 @@ fn splice(front: &[u8], at: usize, piece: &[u8], out: &mut [u8])
     requires room { length front.now + length piece.now ≤ length out.old }
     ensures { out.new ≡ written_at out.old 0 (spliced at front.now piece.now) }
 {
-    let _ = write_at(out, 0, &front[..at]);
-    let _ = write_at(out, at, piece);
-    let _ = write_at(out, at + piece.len(), &front[at..]);
+    write_at(out, 0, &front[..at]).unwrap();
+    write_at(out, at, piece).unwrap();
+    write_at(out, at + piece.len(), &front[at..]).unwrap();
 }
 
 impl Table<'_> {
@@ -37,7 +37,7 @@ impl Table<'_> {
         ensures rows { self.new.rows ≡ slice_set self.old.rows i row }
         ensures len { self.new.len ≡ self.old.len }
     {
-        let _ = write_at(self.memory, BODY_ROOM * row.place, bytes);
+        write_at(self.memory, BODY_ROOM * row.place, bytes).unwrap();
         self.rows[i] = row;
     }
 
@@ -96,7 +96,7 @@ impl Table<'_> {
         if piece.bytes.len() > BODY_ROOM {
             return Err(Refusal::new(Cause::FragmentsTooLong, FRAGMENT_PLACE));
         }
-        let _ = write_at(joining, 0, piece.bytes);
+        write_at(joining, 0, piece.bytes).unwrap();
         if piece.head.total == 1 {
             return Ok(Joined::Whole(piece.bytes.len()));
         }
