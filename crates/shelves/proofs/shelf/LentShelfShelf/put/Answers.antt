@@ -47,7 +47,7 @@ store-requires g c =
     } in
     record {
       short = h.short;
-      inside = rw c.from.ensures (put_inside s c.args.first c.args.count c.args.body.now c.in_ok-spare.spare c.args.self.now.racked h);
+      inside = omega (arith, c.from.ensures, put_inside s c.args.first c.args.count c.args.body.now c.in_ok-spare.spare c.args.self.now.racked h);
     }
 
 pub invariant_of-self : goal.invariant_of-self
