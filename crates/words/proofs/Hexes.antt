@@ -113,9 +113,10 @@ fitting-other room word e = other (hex_of word) e
     other None e = refl
     other (Some l) e = absurd (let z : ◌≡◌ {A = ℕ} 0 1 = cc in omega arith)
 
-pub fitting-long : (room n : ℕ) (word : List ℕ) → Some n ≡ size_of (hex_of word) → room < n → fitting room (hex_of word) ≡ None
-fitting-long room n word e h =
-    let s = some_sized n (hex_of word) e in ap (fitting room) s.1 ∙ fits_not (length s.0) room s.0 (omega (arith, s.2))
+pub fitting-long : (room : ℕ) (word : List ℕ) → 2 * room < length word → fitting room (hex_of word) ≡ None
+fitting-long room word h =
+    elim (hex_of word) as (λ x. hex_of word ≡ x → fitting room x ≡ None)
+    [ None ↦ λ e. refl | Some l ↦ λ e. fits_not (length l) room l (let long = hex_length word l e in omega arith) ] refl
 
 pub fitting-bytes : (room : ℕ) (word l : List ℕ) → Some l ≡ hex_of word → length l ≤ room → fitting room (hex_of word) ≡ Some l
 fitting-bytes room word l e h = ap (fitting room) (sym e) ∙ fits (length l) room l h

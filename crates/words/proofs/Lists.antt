@@ -1,5 +1,6 @@
 -- The lines of a text and the words of a line.
-use Rattle.std.proofs.Common.{◌≡◌, ℕ, zero, suc, ◌+◌, ◌<◌, ◌≤◌, Bool, true, false, cond, not, eqb, List, [], ◌∷◌, length, take, drop, sym, refl, ap, ◌∙◌, arith, length-drop, length-take, eq-eqb, ne_eqb}
+use Rattle.std.specs.List.{list_all}
+use Rattle.std.proofs.Common.{◌≡◌, ℕ, zero, suc, ◌+◌, ◌<◌, ◌≤◌, Bool, true, false, cond, not, eqb, ◌&&◌, List, [], ◌∷◌, length, take, drop, sym, refl, ap, ◌∙◌, arith, length-drop, length-take, eq-eqb, ne_eqb}
 use borrow.Author.Tests.{eqb-false}
 use Rattle.std.proofs.lemmas.List.{nil_from_length}
 use Rattle.words.specs.Words.{place_of, spaces_of, line_of, after_line, with_first, lines_of, trimmed, word_of, after_word, is_blank, words_from, words_of}
@@ -25,6 +26,27 @@ lines_first (b ∷ (x ∷ xs)) h = lines_by (eqb b 10) b (x ∷ xs) (lines_first
 
 pub lines_next : (rest line more : List ℕ) → 0 < length rest → line ≡ line_of rest → more ≡ after_line rest → lines_of rest ≡ line ∷ lines_of more
 lines_next rest line more h e f = lines_first rest h ∙ ap (λ l. l ∷ lines_of (after_line rest)) (sym e) ∙ ap (λ l. line ∷ lines_of l) (sym f)
+
+-- a blank line has only spaces
+abbrev blank_by : List ℕ → Bool
+blank_by trimmed = eqb (length (take (place_of 32 trimmed) trimmed)) 0
+
+pub all_spaces : (line : List ℕ) → list_all (λ b. eqb b 32) line ≡ is_blank line
+all_spaces [] = refl
+all_spaces (b ∷ bs) =
+    elim (eqb b 32) as (λ t. eqb b 32 ≡ t → (t && list_all (λ b. eqb b 32) bs) ≡ is_blank (b ∷ bs)) [
+      | true ↦ λ e.
+          let one : 1 + spaces_of bs ≡ suc (spaces_of bs) = omega arith in
+          all_spaces bs ∙ sym (ap (λ t. blank_by (drop (cond (not (not t)) (1 + spaces_of bs) 0) (b ∷ bs))) e ∙ ap (λ n. blank_by (drop n (b ∷ bs))) one)
+      | false ↦ λ e.
+          let one : 1 + place_of 32 bs ≡ suc (place_of 32 bs) = omega arith in
+          sym (
+          ap (λ t. blank_by (drop (cond (not (not t)) (1 + spaces_of bs) 0) (b ∷ bs))) e
+          ∙ ap (λ t. eqb (length (take (cond (not t) (1 + place_of 32 bs) 0) (b ∷ bs))) 0) e
+          ∙ ap (λ n. eqb (length (take n (b ∷ bs))) 0) one
+          ∙ ne_eqb (suc (length (take (place_of 32 bs) bs))) 0 (omega arith)
+          )
+    ] refl
 
 -- a word takes at least a byte
 word_takes : (line : List ℕ) → is_blank line ≡ false → length (after_word line) < length line

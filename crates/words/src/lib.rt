@@ -210,10 +210,11 @@ pub fn hex_into(word: &[u8], out: &mut [u8]) -> Option<usize>
     ensures size { result ≡ size_of (fitting (length out.old) (hex_of word.now)) }
     ensures after { out.new ≡ over_front out.old (fitting (length out.old) (hex_of word.now)) }
 {
-    let size = hex_size(word)?;
-    if size > out.len() {
+    // Before all else, so that a word that is too long is not gone through.
+    if word.len() > 2 * out.len() {
         return None;
     }
+    let size = hex_size(word)?;
     decode(word, &mut out[..size]);
     Some(size)
 }
