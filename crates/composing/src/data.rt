@@ -158,18 +158,34 @@ pub(crate) fn prepare(channel: u16, rest: &[u8], plain: &mut [u8]) -> Option<(Pa
     Some((packing, size))
 }
 
+/// Where a data line is packed: its plain body, and its datagram. Made once for a text, since making it is to zero it.
+#[derive(Drop)]
+pub(crate) struct Workspace {
+    plain: [u8; BODY_ROOM],
+    datagram: [u8; MAX_DATAGRAM],
+}
+
+impl Workspace {
+    pub(crate) fn new() -> Workspace {
+        Workspace {
+            plain: [0; BODY_ROOM],
+            datagram: [0; MAX_DATAGRAM],
+        }
+    }
+}
+
 /// Writes the record of a data line to the front of an area.
 pub(crate) fn put_data<C: SealingCoder>(
     coder: &C,
     channel: u16,
     rest: &[u8],
+    workspace: &mut Workspace,
     out: &mut [u8],
 ) -> Option<usize>
     ensures { front_in result out.new ≡ sized (fitting (length out.old) (data_of (C.OpeningCoder.ready coder.now) (C.SealingCoder.seals coder.now) channel rest.now)) }
 {
-    let mut plain = [0; BODY_ROOM];
-    let mut buffer = [0; MAX_DATAGRAM];
-    let (packing, size) = prepare(channel, rest, &mut plain)?;
-    let length = packed(coder, packing, &plain[..size], &mut buffer).ok()?;
-    put_datagram(out, &buffer[..length])
+    let (packing, size) = prepare(channel, rest, &mut workspace.plain)?;
+    let plain = &workspace.plain[..size];
+    let length = packed(coder, packing, plain, &mut workspace.datagram).ok()?;
+    put_datagram(out, &workspace.datagram[..length])
 }

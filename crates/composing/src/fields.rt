@@ -8,8 +8,7 @@ use words::split_word;
 pub(crate) fn is_blank(line: &[u8]) -> bool
     ensures { result ≡ is_blank line.now }
 {
-    let (word, _) = split_word(line);
-    word.is_empty()
+    line.iter().all(|b| *b == b' ')
 }
 
 // The only word that is left on a line.

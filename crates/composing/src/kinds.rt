@@ -4,7 +4,7 @@ ghost use Rattle.words.specs.Words.{fitting};
 ghost use Rattle.composing.specs.Composing.{front_in, sized};
 ghost use Rattle.composing.specs.Lines.{is_idle, opening_of, header_for, header_of, record_of, by_stage, added_by, moved_on, stage_after};
 
-use crate::data::put_data;
+use crate::data::{Workspace, put_data};
 use crate::fields::{is_blank, last_word};
 use crate::records::{
     STREAM_END, STREAM_HEARTBEAT, put, put_heartbeat, put_judge, put_raw, put_stream,
@@ -31,12 +31,13 @@ pub(crate) fn put_record<C: SealingCoder>(
     channel: u16,
     kind: &[u8],
     rest: &[u8],
+    workspace: &mut Workspace,
     out: &mut [u8],
 ) -> Option<usize>
     ensures { front_in result out.new ≡ sized (fitting (length out.old) (record_of (C.OpeningCoder.ready coder.now) (C.SealingCoder.seals coder.now) channel kind.now rest.now)) }
 {
     match kind {
-        b"data" => put_data(coder, channel, rest, out),
+        b"data" => put_data(coder, channel, rest, workspace, out),
         b"judge" => put_judge(rest, out),
         b"raw" => put_raw(rest, out),
         b"heartbeat" => put_heartbeat(rest, out),
@@ -79,12 +80,13 @@ fn put_by_stage<C: SealingCoder>(
     stage: Option<u16>,
     kind: &[u8],
     rest: &[u8],
+    workspace: &mut Workspace,
     out: &mut [u8],
 ) -> Option<usize>
     ensures { front_in result out.new ≡ sized (fitting (length out.old) (by_stage (C.OpeningCoder.ready coder.now) (C.SealingCoder.seals coder.now) stage kind.now rest.now)) }
 {
     match (stage, kind) {
-        (Some(channel), _) => put_record(coder, channel, kind, rest, out),
+        (Some(channel), _) => put_record(coder, channel, kind, rest, workspace, out),
         (None, b"capture") => put_header(rest, out),
         (None, _) => None,
     }
@@ -96,6 +98,7 @@ pub(crate) fn put_line<C: SealingCoder>(
     coder: &C,
     stage: Option<u16>,
     line: &[u8],
+    workspace: &mut Workspace,
     out: &mut [u8],
 ) -> Option<usize>
     ensures { front_in result out.new ≡ sized (fitting (length out.old) (added_by (C.OpeningCoder.ready coder.now) (C.SealingCoder.seals coder.now) stage line.now)) }
@@ -104,14 +107,14 @@ pub(crate) fn put_line<C: SealingCoder>(
         return Some(0);
     }
     let (kind, rest) = split_word(line);
-    put_by_stage(coder, stage, kind, rest, out)
+    put_by_stage(coder, stage, kind, rest, workspace, out)
 }
 
 // The stage behind a line that is not idle. Behind a bad opening it is channel 0; no line is read there.
 fn next_stage(stage: Option<u16>, rest: &[u8]) -> Option<u16>
     ensures { result ≡ moved_on stage rest.now }
 {
-    stage.or(Some(opening(rest).map_or(0, |(channel, _)| channel)))
+    stage.or_else(|| Some(opening(rest).map_or(0, |(channel, _)| channel)))
 }
 
 /// The stage behind a line.

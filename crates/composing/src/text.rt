@@ -2,6 +2,7 @@
 ghost use Rattle.std.specs.Prelude.{◌≡◌, ◌≤◌, ◌++◌, IfOk, Some, codes, decimal};
 ghost use Rattle.composing.specs.Lines.{composed_of, capture_in, size_in, area_after};
 
+use crate::data::Workspace;
 use crate::kinds::{put_line, stage_after};
 use base::limits::MAX_CAPTURE;
 use base::zero_from;
@@ -35,12 +36,14 @@ fn compose_lines<C: SealingCoder>(
     ensures capture { capture_in result area.new ≡ composed_of (C.OpeningCoder.ready coder.now) (C.SealingCoder.seals coder.now) text.now }
     ensures within { IfOk result (λ n. n ≤ 65536) }
 {
+    let mut workspace = Workspace::new();
     let mut stage = None;
     // Counted by hand, since the number behind the last line is told too.
     let mut number = 1;
     let mut size = 0;
     for line in Lines::new(text) {
-        size += put_line(coder, stage, line, &mut area[size..]).ok_or(BadLine { line: number })?;
+        let added = put_line(coder, stage, line, &mut workspace, &mut area[size..]);
+        size += added.ok_or(BadLine { line: number })?;
         stage = stage_after(stage, line);
         number += 1;
     }

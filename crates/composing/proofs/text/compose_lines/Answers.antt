@@ -26,7 +26,7 @@ fits g c =
     line_within (g.C.OpeningCoder.ready c.args.coder.now) (g.C.SealingCoder.seals c.args.coder.now) 65536 c.loop-line.number size c.loop-line.stage area
     c.in-Some.line.now c.loop-line.line-iterator c.next.new.self (take (65536 - size) (drop size area))
     (composed_of (g.C.OpeningCoder.ready c.args.coder.now) (g.C.SealingCoder.seals c.args.coder.now) c.args.text.now) c.loop-line.invariant.0 (search rules)
-    (search rules) c.loop-line.invariant.1 (search rules) c.in_ok-size.field-0 c.put_line.new.out (search rules)
+    (search rules) c.loop-line.invariant.1 (search rules) c.in_ok-size.field-0 c.put_line-added.new.out (search rules)
 
 pub loop-line-preserved : goal.loop-line-preserved
 loop-line-preserved g c =
@@ -35,7 +35,7 @@ loop-line-preserved g c =
       line_more (g.C.OpeningCoder.ready c.args.coder.now) (g.C.SealingCoder.seals c.args.coder.now) 65536 c.loop-line.number size c.loop-line.stage area
           c.in-Some.line.now c.loop-line.line-iterator c.next.new.self (take (65536 - size) (drop size area))
           (composed_of (g.C.OpeningCoder.ready c.args.coder.now) (g.C.SealingCoder.seals c.args.coder.now) c.args.text.now) c.loop-line.invariant.0 (search rules)
-          (search rules) c.loop-line.invariant.1 (search rules) c.in_ok-size.field-0 c.put_line.new.out (search rules) (search rules)
+          (search rules) c.loop-line.invariant.1 (search rules) c.in_ok-size.field-0 c.put_line-added.new.out (search rules) (search rules)
           c.stage_after-stage.result c.stage_after-stage.ensures,
       fits g c,
       search rules,
