@@ -1,10 +1,13 @@
 -- How many rows there are, and where one of them stands.
-use Rattle.std.proofs.Common.{◌≡◌, ℕ, suc, ◌+◌, true, false, cond, eqb, leb, List, [], ◌∷◌, length, Some, None, Option, refl, ap, ◌∙◌, arith}
+use Rattle.std.proofs.Common.{◌≡◌, ℕ, suc, ◌+◌, ◌≤◌, true, false, cond, eqb, leb, List, [], ◌∷◌, length, take, Some, None, Option, refl, ap, ◌∙◌, arith}
+use Rattle.std.proofs.lemmas.List.{length-take-le}
 use Rattle.std.specs.List.{position_from}
 use Rattle.std.specs.Option.{option_map, option_to_list}
 use Rattle.rows.specs.Order.{index_of, row_of, insert_by, remove_by}
 use Rattle.rows.specs.declared.row.Row.{Row}
+use Rattle.shelves.specs.Heaps.{heap_rows}
 use Rattle.shelves.specs.Sifting.{sort_by}
+use Rattle.shelves.specs.declared.heaping.Heap.{Heap}
 
 shifted : (i : ℕ) (o : Option ℕ) → option_map (λ n. i + 1 + n) o ≡ option_map (λ n. i + n) (option_map suc o)
 shifted i None = refl
@@ -40,3 +43,6 @@ module _ {P : Type 0} where
 
   pub position-index : (k : ℕ) (xs : List (Row P)) → position_from (λ (x : Row P). eqb x.number k) 0 xs ≡ index_of k xs
   position-index k xs = from_index k 0 xs ∙ none_added (index_of k xs)
+
+pub length-heap : (h : Heap) → h.len ≤ length h.rows.now → length (heap_rows h) ≡ h.len
+length-heap h fits = length-sorted (take h.len h.rows.now) ∙ length-take-le h.len h.rows.now fits
